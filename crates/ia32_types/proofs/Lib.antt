@@ -1,0 +1,3 @@
+pub mod ReaderLaws
+pub mod SetLaws
+pub mod SpellsLaws

@@ -1,0 +1,5 @@
+use Rattle.ia32_types.proofs.SpellsLaws.{one_spelling}
+use Rattle.ia32_types.proofs.laws.one_spelling.Goals as goal
+
+pub returns : goal.returns
+returns c = one_spelling

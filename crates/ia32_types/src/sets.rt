@@ -1,0 +1,146 @@
+//! Sets of registers and of flags, as bits.
+
+ghost use Rattle.std.specs.Prelude.{⊤, ◌≡◌, ◌==◌, [], ◌∷◌, codes};
+ghost use Rattle.std.specs.Int.RustNames.{bit_and, bit_or};
+ghost use Rattle.ia32_types.specs.Sets.{reg_bit, flag_bit};
+
+use crate::{Flag, Reg};
+use bitflags::{Flag as NamedFlag, Flags, bitflag_items};
+
+/// A set of registers: the register of number n has bit n.
+#[derive(Clone, Copy, Debug, PartialEq, Eq)]
+pub struct RegSet(pub u8);
+
+bitflag_items! {
+    impl RegSet: u8 {
+        const EAX = 1;
+        const ECX = 2;
+        const EDX = 4;
+        const EBX = 8;
+        const ESP = 16;
+        const EBP = 32;
+        const ESI = 64;
+        const EDI = 128;
+    }
+}
+
+impl Flags for RegSet {
+    type Bits = u8;
+
+    ghost exact = { ⊤ };
+
+    ghost table = { (codes "EAX", 1) ∷ (codes "ECX", 2) ∷ (codes "EDX", 4) ∷ (codes "EBX", 8) ∷ (codes "ESP", 16) ∷ (codes "EBP", 32) ∷ (codes "ESI", 64) ∷ (codes "EDI", 128) ∷ [] };
+
+    ghost set_of = { λ s. s.0 };
+
+    fn flags<'a>() -> &'a [NamedFlag<RegSet>] {
+        RegSet::FLAGS
+    }
+
+    fn bits(&self) -> u8 {
+        self.0
+    }
+
+    fn from_bits_retain(bits: u8) -> RegSet {
+        RegSet(bits)
+    }
+}
+
+impl RegSet {
+    /// The set of one register.
+    pub fn only(reg: Reg) -> RegSet
+        ensures { result.0 ≡ reg_bit reg }
+    {
+        match reg {
+            Reg::Eax => RegSet::EAX,
+            Reg::Ecx => RegSet::ECX,
+            Reg::Edx => RegSet::EDX,
+            Reg::Ebx => RegSet::EBX,
+            Reg::Esp => RegSet::ESP,
+            Reg::Ebp => RegSet::EBP,
+            Reg::Esi => RegSet::ESI,
+            Reg::Edi => RegSet::EDI,
+        }
+    }
+
+    /// Whether the register is in the set.
+    pub fn has(self, reg: Reg) -> bool
+        ensures { result ≡ (bit_and self.0 (reg_bit reg) == reg_bit reg) }
+    {
+        self.contains(RegSet::only(reg))
+    }
+
+    /// The registers of both sets.
+    pub fn with(self, other: RegSet) -> RegSet
+        ensures { result.0 ≡ bit_or self.0 other.0 }
+    {
+        self.union(other)
+    }
+}
+
+/// A set of flags: bits 0 to 5 are CF, PF, ZF, SF, OF and DF.
+#[derive(Clone, Copy, Debug, PartialEq, Eq)]
+pub struct FlagSet(pub u8);
+
+bitflag_items! {
+    impl FlagSet: u8 {
+        const CF = 1;
+        const PF = 2;
+        const ZF = 4;
+        const SF = 8;
+        const OF = 16;
+        const DF = 32;
+    }
+}
+
+impl Flags for FlagSet {
+    type Bits = u8;
+
+    ghost exact = { ⊤ };
+
+    ghost table = { (codes "CF", 1) ∷ (codes "PF", 2) ∷ (codes "ZF", 4) ∷ (codes "SF", 8) ∷ (codes "OF", 16) ∷ (codes "DF", 32) ∷ [] };
+
+    ghost set_of = { λ s. s.0 };
+
+    fn flags<'a>() -> &'a [NamedFlag<FlagSet>] {
+        FlagSet::FLAGS
+    }
+
+    fn bits(&self) -> u8 {
+        self.0
+    }
+
+    fn from_bits_retain(bits: u8) -> FlagSet {
+        FlagSet(bits)
+    }
+}
+
+impl FlagSet {
+    /// The set of one flag.
+    pub fn only(flag: Flag) -> FlagSet
+        ensures { result.0 ≡ flag_bit flag }
+    {
+        match flag {
+            Flag::Cf => FlagSet::CF,
+            Flag::Pf => FlagSet::PF,
+            Flag::Zf => FlagSet::ZF,
+            Flag::Sf => FlagSet::SF,
+            Flag::Of => FlagSet::OF,
+            Flag::Df => FlagSet::DF,
+        }
+    }
+
+    /// Whether the flag is in the set.
+    pub fn has(self, flag: Flag) -> bool
+        ensures { result ≡ (bit_and self.0 (flag_bit flag) == flag_bit flag) }
+    {
+        self.contains(FlagSet::only(flag))
+    }
+
+    /// The flags of both sets.
+    pub fn with(self, other: FlagSet) -> FlagSet
+        ensures { result.0 ≡ bit_or self.0 other.0 }
+    {
+        self.union(other)
+    }
+}

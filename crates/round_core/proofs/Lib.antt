@@ -1,0 +1,9 @@
+pub mod FlagLemmas
+pub mod FreeSlot
+pub mod LaneLaws
+pub mod LaneSteps
+pub mod SlotLemmas
+pub mod StateLaws
+pub mod Tests
+pub mod TheLaws
+pub mod WordLemmas

@@ -1,0 +1,10 @@
+pub mod Signs
+pub mod Floors
+pub mod Products
+pub mod Masks
+pub mod Members
+pub mod Multiples
+pub mod Shifts
+pub mod Parts
+pub mod Shapes
+pub mod Readings

@@ -1,0 +1,6 @@
+pub mod Members
+pub mod Gcd
+pub mod Spaced
+pub mod SumLaws
+pub mod JoinLaws
+pub mod BoundLaws

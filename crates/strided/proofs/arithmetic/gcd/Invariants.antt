@@ -1,0 +1,10 @@
+-- The two numbers keep their greatest common divisor.
+use Rattle.std.proofs.Common.{◌≡◌}
+use Rattle.strided.specs.Gcd.{gcd}
+use Rattle.strided.proofs.arithmetic.gcd.Given as goal
+
+abbrev pub invariant-loop-rest : goal.invariant-loop-rest
+invariant-loop-rest l = gcd l.divisor l.rest ≡ gcd l.fn.a l.fn.b
+
+abbrev pub decreases-loop-rest : goal.decreases-loop-rest
+decreases-loop-rest l = l.rest

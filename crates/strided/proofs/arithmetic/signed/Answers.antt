@@ -1,0 +1,9 @@
+-- The remainder by 2^32, cast to a signed word, is what `int_wrap` says.
+use Rattle.std.proofs.Common.{arith}
+use Rattle.std.proofs.lemmas.Int.{to_z-of_z}
+use Rattle.std.specs.Int.{int_wrap}
+use Rattle.strided.proofs.arithmetic.signed.Goals as goal
+
+pub returns : goal.returns
+unfolding int_wrap
+returns c = grind (arith, to_z-of_z)

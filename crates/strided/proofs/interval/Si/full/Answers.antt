@@ -1,0 +1,6 @@
+-- All signed words are a canonical interval.
+use Rattle.strided.proofs.Members.{full_canonical}
+use Rattle.strided.proofs.interval.Si.full.Goals as goal
+
+pub made-requires : goal.made-requires
+made-requires c = full_canonical

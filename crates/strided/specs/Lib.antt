@@ -1,0 +1,5 @@
+pub mod Gcd
+pub mod Interval
+pub mod Concrete
+pub mod Operations
+pub mod Rows

@@ -1,0 +1,4 @@
+pub mod Appending
+mod FileLists
+pub mod HexDigits
+pub mod TextLines

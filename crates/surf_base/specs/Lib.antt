@@ -1,0 +1,7 @@
+pub mod Calls
+pub mod Faults
+pub mod Hex
+pub mod MemoryShelf
+pub mod MemorySink
+pub mod Shelf
+pub mod Sink

@@ -1,0 +1,233 @@
+-- Straight code's runs walk its graph, so that every dependence is in its slice.
+use Rattle.std.proofs.Common.{◌≡◌, ℕ, zero, suc, ◌+◌, ◌-◌, ◌^◌, ◌<◌, ◌≤◌, List, [], ◌∷◌, length, Some, None, refl, sym, ap, subst, ◌∙◌, arith}
+use Rattle.std.specs.Option.{option_and_then, option_map_or}
+use Rattle.std.specs.Prelude.{◌⊎◌, is_some, ◌≢◌, ◌&&◌, ◌==◌, cond, not, nat_lt, Bool, true, false, slice_get, slice_index, Contains, IsTrue, IsSomeAnd}
+use Rattle.std.proofs.lemmas.Option.{none-some, same_Some, slice_get-get_or}
+use Rattle.std.proofs.lemmas.Bool.{cases_lt, false≢true}
+use borrow.Author.Tests.{ltb-true, eq-eqb, le-leb, lt-ltb}
+use Rattle.ia32_types.specs.declared.Instr.{Instr}
+use Rattle.ia32_types.specs.Places.{registers_read, registers_written, flags_read, flags_written}
+use Rattle.surf_prog.specs.FlowGraph.{FlowNode, Has, IsAt, IsStep, esp_place}
+use Rattle.surf_prog.specs.Slicer.{IsSlice}
+use Rattle.surf_prog.specs.StraightCode.{IsStraight, straight_node, nodes_from, straight_graph}
+use Rattle.surf_prog.specs.ImageMapImage.{Image, Segment, PF_X, holds, segment_at, is_in_segment, has_flag, byte_at}
+use Rattle.surf_prog.specs.ImageMapState.{State, esp}
+use Rattle.surf_prog.specs.Ia32Machine.{Settings, Executes, stack_low, IsStart, is_single}
+use Rattle.surf_prog.specs.Ia32Run.{Occurrence, stands_at, IsRun, Place, InRegister, InFlag, AtByte, is_place, act_reads, act_writes, DataDependence, ControlDependence}
+use Rattle.surf_prog.specs.StraightRuns.{code_segment, code_image, HoldsCode, Executed, RunsExecuteInOrder, ReadsHaveEdges, SlicesListDependences, CodeSlicesListDependences}
+use Rattle.surf_prog.proofs.StraightPlaces.{split, both_of, both_are, register_place, place_register, flag_place, place_flag}
+use Rattle.surf_prog.proofs.StraightWalk.{Ready, AreExecuted, executed, executed_at}
+use Rattle.surf_prog.proofs.RunArrows.{Walked, Carried, Covered, carried, data_edge, listed}
+
+-- -- The graph's nodes
+
+-- node k is the node of instruction k
+record HasNode (g : List FlowNode) (k : ℕ) (i : Instr) : Type 0 where
+  next : List ℕ
+  end : Bool
+  is_there : slice_get g k ≡ Some (straight_node i next end)
+
+node_at : (n : ℕ) (instrs : List Instr) (k : ℕ) (i : Instr) → slice_get instrs k ≡ Some i → HasNode (nodes_from n instrs) k i
+node_at n [] k i is = absurd (none-some i is)
+node_at n (j ∷ []) zero i is = record { next = []; end = true; is_there = ap (λ v. Some (straight_node v [] true)) (same_Some j i is) }
+node_at n (j ∷ []) (suc k) i is = absurd (none-some i is)
+node_at n (j ∷ l ∷ rest) zero i is = record { next = (n + 1) ∷ []; end = false; is_there = ap (λ v. Some (straight_node v ((n + 1) ∷ []) false)) (same_Some j i is) }
+node_at n (j ∷ l ∷ rest) (suc k) i is =
+    let r = node_at (n + 1) (l ∷ rest) k i is in
+    record { next = r.next; end = r.end; is_there = r.is_there }
+
+-- what holds of a node that is there
+has : (g : List FlowNode) (k : ℕ) (node : FlowNode) (P : FlowNode → Type 0) → slice_get g k ≡ Some node → P node → Has g k P
+has g k node P is p = subst (λ o. IsSomeAnd o P) (sym is) p
+
+had : (g : List FlowNode) (k : ℕ) (node : FlowNode) (P : FlowNode → Type 0) → slice_get g k ≡ Some node → Has g k P → P node
+had g k node P is h = subst (λ o. IsSomeAnd o P) is h
+
+step_at : (n : ℕ) (instrs : List Instr) (k : ℕ) (i : Instr) (m : ℕ) → slice_get instrs (suc k) ≡ Some i → m ≡ n + suc k → IsStep (nodes_from n instrs) k m
+step_at n [] k i m is e = absurd (none-some i is)
+step_at n (j ∷ []) k i m is e = absurd (none-some i is)
+step_at n (j ∷ l ∷ rest) zero i m is e = (0, omega arith, let f : n + 1 ≡ m = omega arith in f)
+step_at n (j ∷ l ∷ rest) (suc k) i m is e = step_at (n + 1) (l ∷ rest) k i m is (omega arith)
+
+-- -- A run of straight code
+
+module _ (instrs : List Instr) (image : Image) (settings : Settings) (skip_sp : Bool) (run : List Occurrence) (all : AreExecuted run instrs) where
+  graph : List FlowNode
+  graph = straight_graph instrs
+
+  -- occurrence k stands at node k
+  itself : ℕ → ℕ
+  itself k = k
+
+  stands : (k : ℕ) (o : Occurrence) → slice_get run k ≡ Some o → IsAt (straight_graph instrs) (stands_at o) k
+  stands k o is =
+      let e = executed_at run instrs k o all is in
+      let node = node_at 0 instrs k e.0 e.1 in
+      has (straight_graph instrs) k _ (λ node. node.at ≡ stands_at o) node.is_there (sym e.2.runs.place)
+
+  steps : (k : ℕ) (o : Occurrence) → slice_get run (suc k) ≡ Some o → IsStep (straight_graph instrs) k (suc k)
+  steps k o is =
+      let e = executed_at run instrs (suc k) o all is in
+      step_at 0 instrs k e.0 (suc k) e.1 (omega arith)
+
+  -- the act's places are the instruction's
+  reads_of : (o : Occurrence) (i : Instr) (place : Place) → Executed o i → IsTrue (act_reads o.act o.before place) → IsTrue (act_reads (Executes i) o.before place)
+  reads_of o i place e h = subst (λ a. IsTrue (act_reads a o.before place)) e.act h
+
+  writes_of : (o : Occurrence) (i : Instr) (place : Place) → Executed o i → IsTrue (act_writes o.act o.before place) → IsTrue (act_writes (Executes i) o.before place)
+  writes_of o i place e h = subst (λ a. IsTrue (act_writes a o.before place)) e.act h
+
+  writes_by : (o : Occurrence) (i : Instr) (place : Place) → Executed o i → IsTrue (act_writes (Executes i) o.before place) → IsTrue (act_writes o.act o.before place)
+  writes_by o i place e h = subst (λ a. IsTrue (act_writes a o.before place)) (sym e.act) h
+
+  other_than_esp : (n : ℕ) → IsTrue (is_place skip_sp (InRegister n)) → IsTrue skip_sp → n ≢ esp_place
+  other_than_esp n is skip e =
+      let other = (both_of (nat_lt n 8) _ is).1 in
+      let same : (skip_sp && n == esp) ≡ true = both_are skip_sp (n == esp) skip (eq-eqb n esp e) in
+      false≢true (sym (ap not same) ∙ other)
+
+  -- a register and a flag are covered by their places in the graph
+  registers : (n : ℕ) → Covered (straight_graph instrs) skip_sp run (λ k. k) (InRegister n) (λ k. n)
+  registers n = record {
+    not_esp = λ k is skip. other_than_esp n is skip;
+    used = λ k o is reads.
+        let e = executed_at run instrs k o all is in
+        let both = both_of (is_place skip_sp (InRegister n)) _ reads in
+        let below = ltb-true n 8 (both_of (nat_lt n 8) _ both.0).0 in
+        let node = node_at 0 instrs k e.0 e.1 in
+        has (straight_graph instrs) k _ (λ node. Contains node.may_use n) node.is_there
+        (register_place (registers_read e.0) (flags_read e.0) n below (reads_of o e.0 (InRegister n) e.2.runs both.1));
+    defined = λ k o is writes.
+        let e = executed_at run instrs k o all is in
+        let both = both_of (is_place skip_sp (InRegister n)) _ writes in
+        let below = ltb-true n 8 (both_of (nat_lt n 8) _ both.0).0 in
+        let node = node_at 0 instrs k e.0 e.1 in
+        has (straight_graph instrs) k _ (λ node. Contains node.may_def n) node.is_there
+        (register_place (registers_written e.0) (flags_written e.0) n below (writes_of o e.0 (InRegister n) e.2.runs both.1));
+    always = λ k o is place must.
+        let e = executed_at run instrs k o all is in
+        let below = ltb-true n 8 (both_of (nat_lt n 8) _ place).0 in
+        let node = node_at 0 instrs k e.0 e.1 in
+        let there = had (straight_graph instrs) k _ (λ node. Contains node.must_def n) node.is_there must in
+        both_are _ _ place (writes_by o e.0 (InRegister n) e.2.runs (place_register (registers_written e.0) (flags_written e.0) n below there));
+    stays = λ j i d k from before. refl;
+  }
+
+  flags : (n : ℕ) → Covered (straight_graph instrs) skip_sp run (λ k. k) (InFlag n) (λ k. n + 8)
+  flags n = record {
+    not_esp = λ k is skip e. omega arith;
+    used = λ k o is reads.
+        let e = executed_at run instrs k o all is in
+        let both = both_of (is_place skip_sp (InFlag n)) _ reads in
+        let node = node_at 0 instrs k e.0 e.1 in
+        has (straight_graph instrs) k _ (λ node. Contains node.may_use (n + 8)) node.is_there
+        (flag_place (registers_read e.0) (flags_read e.0) n (ltb-true n 6 both.0) (reads_of o e.0 (InFlag n) e.2.runs both.1));
+    defined = λ k o is writes.
+        let e = executed_at run instrs k o all is in
+        let both = both_of (is_place skip_sp (InFlag n)) _ writes in
+        let node = node_at 0 instrs k e.0 e.1 in
+        has (straight_graph instrs) k _ (λ node. Contains node.may_def (n + 8)) node.is_there
+        (flag_place (registers_written e.0) (flags_written e.0) n (ltb-true n 6 both.0) (writes_of o e.0 (InFlag n) e.2.runs both.1));
+    always = λ k o is place must.
+        let e = executed_at run instrs k o all is in
+        let node = node_at 0 instrs k e.0 e.1 in
+        let there = had (straight_graph instrs) k _ (λ node. Contains node.must_def (n + 8)) node.is_there must in
+        both_are _ _ place (writes_by o e.0 (InFlag n) e.2.runs (place_flag (registers_written e.0) (flags_written e.0) n (ltb-true n 6 place) there));
+    stays = λ j i d k from before. refl;
+  }
+
+  -- no instruction writes memory
+  no_byte : (address j i : ℕ) → DataDependence skip_sp run (AtByte address) j i → ⊥
+  no_byte address j i d =
+      let e = executed_at run instrs i d.writer all d.writer_is in
+      false≢true (writes_of d.writer e.0 (AtByte address) e.2.runs d.writes)
+
+  carries : (place : Place) (j i : ℕ) → DataDependence skip_sp run place j i → Carried (straight_graph instrs) skip_sp (λ k. k) j i
+  carries (InRegister n) j i d = carried (straight_graph instrs) skip_sp run (λ k. k) (InRegister n) (λ k. n) (registers n) j i d
+  carries (InFlag n) j i d = carried (straight_graph instrs) skip_sp run (λ k. k) (InFlag n) (λ k. n + 8) (flags n) j i d
+  carries (AtByte address) j i d = absurd (no_byte address j i d)
+
+  no_control : (j i : ℕ) → ControlDependence image settings run j i → ⊥
+  no_control j i c =
+      let e = executed_at run instrs i c.branch all c.branch_is in
+      false≢true (sym e.2.no_branch ∙ c.branches)
+
+  pub walked : Walked (straight_graph instrs) image settings skip_sp run (λ k. k)
+  walked = record {
+    stands = stands;
+    steps = steps;
+    carries = carries;
+    controls = λ j i c. absurd (no_control j i c);
+  }
+
+-- a run from the entry executes the instructions
+pub run_executes : (image : Image) (settings : Settings) (code : List ℕ) (instrs : List Instr) → IsStraight settings.entry code instrs → HoldsCode image settings.entry code → (run : List Occurrence) → IsRun image settings run → AreExecuted run instrs
+run_executes image settings code instrs straight code_is run is =
+    let ready : Ready image (is.start.registers esp) settings.entry code is.start = record {
+      here = is.starts.eip;
+      top = refl;
+      halt = is.starts.halt;
+      single = ap is_single is.starts.activations;
+      code_is = code_is;
+    } in
+    executed image settings (is.start.registers esp) instrs run settings.entry code is.start straight.lists ready is.goes
+
+pub runs_execute_in_order : RunsExecuteInOrder
+runs_execute_in_order image settings code instrs straight code_is run is k o at =
+    let e = executed_at run instrs k o (run_executes image settings code instrs straight code_is run is) at in
+    (e.0, e.1, e.2.runs)
+
+pub reads_have_edges : ReadsHaveEdges
+reads_have_edges image settings code instrs straight code_is run is skip_sp place j i d =
+    let all = run_executes image settings code instrs straight code_is run is in
+    data_edge (straight_graph instrs) image settings skip_sp run (λ k. k) (walked instrs image settings skip_sp run all) place j i d
+
+pub slices_list_dependences : SlicesListDependences
+slices_list_dependences image settings code instrs straight code_is skip_sp at addresses slice run is j i criterion source criterion_is there source_is depends =
+    let all = run_executes image settings code instrs straight code_is run is in
+    listed (straight_graph instrs) image settings skip_sp run (λ k. k) (walked instrs image settings skip_sp run all)
+    j i criterion source criterion_is source_is depends addresses
+    (subst (λ a. IsSlice (straight_graph instrs) a skip_sp addresses) (sym there) slice)
+
+-- the image of code alone has it
+module _ (start : ℕ) (code : List ℕ) (k : ℕ) (h : k < length code) where
+  inside : holds (start + k) (code_segment start code) ≡ true
+  inside =
+      let e : start + k - start ≡ k = omega arith in
+      both_are _ _ (le-leb start (start + k) (omega arith)) (subst (λ n. nat_lt n (length code) ≡ true) (sym e) (lt-ltb k (length code) h))
+
+  found : segment_at (code_segment start code ∷ []) (start + k) ≡ Some (code_segment start code)
+  found = ap (λ b. cond b (Some (code_segment start code)) None) inside
+
+  byte_found : byte_at (code_image start code) (start + k) ≡ Some (slice_index code k)
+  byte_found =
+      let e : start + k - start ≡ k = omega arith in
+      ap (λ o. option_and_then (λ (s : Segment). slice_get s.bytes (start + k - s.start)) o) found ∙ ap (slice_get code) e ∙ slice_get-get_or code k 0 h
+
+pub code_image_has_code : (start : ℕ) (code : List ℕ) → start + length code < 2 ^ 32 → HoldsCode (code_image start code) start code
+code_image_has_code start code fits = record {
+  fits = fits;
+  is_code = λ k h. ap (λ o. option_map_or (has_flag PF_X) o false) (found start code k h);
+  known = λ k h. byte_found start code k h;
+}
+
+-- A start's stack lies outside the code, so code that begins below the stack also ends below it.
+ends_below : (settings : Settings) (code : List ℕ) (start : State) → settings.entry < stack_low → IsStart (code_image settings.entry code) settings start → settings.entry + length code < 2 ^ 32
+ends_below settings code start low is =
+    let slot = start.registers esp in
+    let above = is.slot.above in
+    let below = is.slot.below in
+    split (apart_or settings.entry (length code) slot)
+    (λ inside.
+    let here : is_in_segment (code_image settings.entry code) slot ≡ true =
+    ap (λ b. is_some (cond b (Some (code_segment settings.entry code)) None)) (both_are _ _ (le-leb settings.entry slot (omega arith)) (lt-ltb (slot - settings.entry) (length code) inside)) in
+    split (is.apart slot here) (λ far. absurd (omega arith)) (λ far. absurd (omega arith)))
+    (λ outside. omega arith)
+  where
+    apart_or : (entry n slot : ℕ) → (slot - entry < n) ⊎ (n ≤ slot - entry)
+    apart_or entry n slot = cases_lt (slot - entry) n
+
+pub code_slices_list_dependences : CodeSlicesListDependences
+code_slices_list_dependences settings code instrs low straight skip_sp at addresses slice run is =
+    slices_list_dependences (code_image settings.entry code) settings code instrs straight
+    (code_image_has_code settings.entry code (ends_below settings code is.start low is.starts)) skip_sp at addresses slice run is
