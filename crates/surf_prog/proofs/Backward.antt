@@ -1,20 +1,19 @@
 -- The walk back over straight code finds the slice of its flow graph.
-use Rattle.std.proofs.Common.{◌≡◌, ◌≢◌, ◌⊎◌, inl, inr, ⊎_elim, ℕ, zero, suc, ◌+◌, ◌-◌, ◌^◌, ◌<◌, ◌≤◌, eqb, Bool, true, false, cond, not, ◌||◌, List, [], ◌∷◌, ◌++◌, length, get_or, drop, Option, Some, None, refl, sym, ◌∙◌, ap, subst, arith, IsTrue, eqb-true, eq-eqb}
-use Rattle.std.specs.Prelude.{◌==◌, ◌↔◌, reverse}
+use Rattle.std.proofs.Common.{◌≡◌, ◌⊎◌, inl, inr, ⊎_elim, ℕ, zero, suc, ◌+◌, ◌^◌, ◌<◌, Bool, true, false, ◌||◌, List, [], ◌∷◌, ◌++◌, length, drop, Some, refl, sym, ◌∙◌, ap, subst, arith, IsTrue, eqb-true, eq-eqb}
+use Rattle.std.specs.Prelude.{◌==◌, reverse}
 use Rattle.std.specs.Int.{bit_at}
-use Rattle.std.specs.List.{All, Contains, slice_get, slice_index, AllByRecursion}
+use Rattle.std.specs.List.{Contains, slice_get, slice_index, AllByRecursion}
 use Rattle.std.specs.List.Sorted.{IsStrictlyIncreasing}
-use Rattle.std.proofs.lemmas.Bool.{cases_eq, false≢true}
+use Rattle.std.proofs.lemmas.Bool.{false≢true}
 use Rattle.std.proofs.lemmas.List.{append-nil, append_assoc, reverse-append, reverse-reverse}
-use Rattle.std.proofs.lemmas.Nat.Bits.{bit_at-zero, bit_at-lt}
+use Rattle.std.proofs.lemmas.Nat.Bits.{bit_at-zero}
 use Rattle.ia32_types.specs.declared.Instr.{Instr}
-use Rattle.surf_prog.specs.FlowGraph.{FlowNode, Has, IsAt, IsStep, MayUse, MayDefine, MustDefine, Walk}
-use Rattle.surf_prog.specs.DepGraph.{DataEdge}
+use Rattle.surf_prog.specs.FlowGraph.{IsStep, MayUse, MayDefine, MustDefine, Walk}
 use Rattle.surf_prog.specs.Slicer.{InSlice, IsSliced, IsSlice, Arrow}
 use Rattle.surf_prog.specs.Slicer.InSlice.{criterion, source}
 use Rattle.surf_prog.specs.StraightCode.{straight_graph, places}
 use Rattle.surf_prog.proofs.Places.{reg_reads_of, reg_writes_of, flag_reads_of, flag_writes_of, meets, meets_by, common_from_meets, register_low, needed_before, needed_kept, needed_read, needed_why, register_place, place_register, place_low, contains_cons, contains_here, contains_more, bit_one}
-use Rattle.surf_prog.proofs.StraightGraph.{node_by, has_from, from_has, Found, step_next, next_step}
+use Rattle.surf_prog.proofs.StraightGraph.{has_from, from_has, step_next, next_step}
 
 -- what is known of an instruction of straight code
 pub record IsQuiet (i : Instr) : Type 0 where

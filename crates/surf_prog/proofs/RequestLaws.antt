@@ -1,5 +1,5 @@
 -- Laws of one request: from how it ends to its clauses.
-use Rattle.std.proofs.Common.{◌≡◌, ◌≢◌, ◌⊎◌, inl, inr, ⊎_elim, ℕ, zero, suc, ◌+◌, ◌<◌, ◌≤◌, Bool, true, false, cond, ◌||◌, List, [], ◌∷◌, ◌++◌, length, Option, Some, None, Result, Ok, Err, refl, sym, ◌∙◌, ap, subst, arith, length-append, append_assoc, eqb-true, eq-eqb}
+use Rattle.std.proofs.Common.{◌≡◌, ◌≢◌, ◌⊎◌, inl, inr, ℕ, zero, suc, ◌<◌, ◌≤◌, Bool, true, false, ◌||◌, List, [], ◌∷◌, ◌++◌, length, Option, Some, None, Result, Ok, Err, refl, sym, ◌∙◌, ap, subst, arith, length-append, append_assoc, eqb-true, eq-eqb}
 use Rattle.std.specs.Prelude.{◌==◌, ◌↔◌}
 use Rattle.std.specs.Option.{IfSome}
 use Rattle.std.specs.Result.{OnOk, OnErr}
@@ -13,8 +13,7 @@ use Rattle.surf_base.specs.Sink.{Appends, AppendsPart}
 use Rattle.surf_prog.specs.declared.request.Refusal.{Refusal}
 use Rattle.surf_prog.specs.declared.request.Refusal.TheVariants as refusal
 use Rattle.surf_prog.specs.PlainFile.{plain_start, plain_end, plain_entry, IsPlain}
-use Rattle.surf_prog.specs.StraightCode.{IsStraight, straight_graph}
-use Rattle.surf_prog.specs.Words.{AsksSlice}
+use Rattle.surf_prog.specs.StraightCode.{IsStraight}
 use Rattle.surf_prog.specs.Once.{image_limit, HasCode, HasNode, IsReply, IsUnsupported, IsAbsent, HasReply, TellsLine, WasRead, ForAsked, AsksNothing, WritesReply, WritesPart, IsStatus, WritesNothing, ErrorLines, shelf_line, too_long_line}
 use Rattle.surf_prog.specs.Answer.{Asked, OfFile, Answers, line_of, status_of}
 use Rattle.surf_prog.proofs.PlainLaws.{remains}

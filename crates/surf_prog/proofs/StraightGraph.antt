@@ -1,9 +1,9 @@
 -- The flow graph of straight code, node by node, and its walks.
-use Rattle.std.proofs.Common.{◌≡◌, ◌⊎◌, inl, inr, ⊎_elim, ℕ, zero, suc, ◌+◌, ◌-◌, ◌^◌, ◌<◌, ◌≤◌, Bool, true, false, List, [], ◌∷◌, ◌++◌, length, Option, Some, None, is_some, refl, sym, ◌∙◌, ap, subst, arith, IsTrue}
-use Rattle.std.specs.List.{Contains, slice_get, AllByRecursion}
+use Rattle.std.proofs.Common.{◌≡◌, ⊎_elim, ℕ, zero, suc, ◌+◌, false, List, [], ◌∷◌, Option, Some, None, refl, sym, ◌∙◌, ap, subst, arith}
+use Rattle.std.specs.List.{Contains, slice_get}
 use Rattle.std.specs.Option.{IsSomeAnd, is_none, option_map}
 use Rattle.ia32_types.specs.declared.Instr.{Instr}
-use Rattle.surf_prog.specs.FlowGraph.{FlowNode, Has, IsStep, Walk, Reaches}
+use Rattle.surf_prog.specs.FlowGraph.{FlowNode, Has, IsStep}
 use Rattle.surf_prog.specs.StraightCode.{straight_node, nodes_from, straight_graph}
 use Rattle.surf_prog.proofs.Places.{contains_cons, contains_here}
 

@@ -1,5 +1,5 @@
 -- Laws of texts that are pushed piece by piece.
-use Rattle.std.proofs.Common.{◌≡◌, ℕ, List, [], ◌∷◌, ◌++◌, cond, Result, Ok, Err, refl, sym, ◌∙◌, ap, append_assoc}
+use Rattle.std.proofs.Common.{◌≡◌, ℕ, List, ◌++◌, cond, Result, Ok, Err, ◌∙◌, ap, append_assoc}
 use Rattle.std.specs.Result.{is_ok, OnOk}
 
 pub pushed : {E : Type 0} (r : Result (Unit {0}) E) (old new piece whole : List ℕ) → new ≡ cond (is_ok r) (old ++ piece) old → old ++ piece ≡ whole → OnOk r (new ≡ whole)

@@ -1,5 +1,5 @@
 -- The steps of a request: what a reply and a refusal say.
-use Rattle.std.specs.Prelude.{◌≡◌, ℕ, ◌≤◌, List, length, Option, Some, None, IfSome, Result, Ok, Err, Vec}
+use Rattle.std.specs.Prelude.{◌≡◌, ℕ, ◌≤◌, List, length, Option, IfSome, Result, Ok, Err, Vec}
 use Rattle.std.specs.declared.alloc.Global.{Global}
 use Rattle.surf_base.specs.Faults.{Rose}
 use Rattle.surf_base.specs.Shelf.{IsLonger}

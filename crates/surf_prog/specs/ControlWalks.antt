@@ -1,5 +1,5 @@
 -- Which branches control a node of a flow graph, by walks alone. The project's own.
-use Rattle.std.specs.Prelude.{◌≡◌, ◌≢◌, ◌⊎◌, ℕ, List, [], ◌∷◌, ◌++◌}
+use Rattle.std.specs.Prelude.{◌≢◌, ◌⊎◌, ℕ, List, [], ◌∷◌, ◌++◌}
 use Rattle.std.specs.List.{AllByRecursion}
 use Rattle.surf_prog.specs.FlowGraph.{FlowNode, IsAt, IsBranch, IsEnd, IsStep, Walk, Reaches}
 

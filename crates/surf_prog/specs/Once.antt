@@ -1,8 +1,7 @@
 -- What one request answers: its causes, its text, and its line on the error sink. The project's own.
-use Rattle.std.specs.Prelude.{◌≡◌, ◌⊎◌, ◌↔◌, ℕ, ◌<◌, ◌≤◌, Bool, false, List, [], ◌∷◌, ◌++◌, length, codes, Option, Some, None, IfSome, Result, Ok, Err, ◌≢◌}
+use Rattle.std.specs.Prelude.{◌≡◌, ◌⊎◌, ℕ, false, List, [], ◌∷◌, ◌++◌, codes, Option, IfSome, ◌≢◌}
 use Rattle.surf_base.specs.Hex.{hex8_text}
 use Rattle.surf_base.specs.Sink.{Appends, AppendsPart, AppendsLines}
-use Rattle.surf_base.specs.Shelf.{IsLonger}
 use Rattle.surf_base.specs.Faults.{Rose}
 use Rattle.surf_prog.specs.FlowGraph.{IsAt}
 use Rattle.surf_prog.specs.Slicer.{IsSlice}

@@ -1,5 +1,5 @@
 -- The backward slice of a flow graph: what a criterion may depend on. The project's own, after Weiser's slices.
-use Rattle.std.specs.Prelude.{◌≡◌, ◌≢◌, ◌⊎◌, ◌↔◌, ℕ, Bool, List, Contains, IsTrue}
+use Rattle.std.specs.Prelude.{◌≢◌, ◌⊎◌, ◌↔◌, ℕ, Bool, List, Contains, IsTrue}
 use Rattle.std.specs.List.Sorted.{IsStrictlyIncreasing}
 use Rattle.surf_prog.specs.FlowGraph.{FlowNode, IsAt, esp_place}
 use Rattle.surf_prog.specs.DepGraph.{DataEdge}

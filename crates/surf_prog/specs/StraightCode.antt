@@ -1,6 +1,6 @@
 -- Code without a branch: what it is as bytes, the instructions that it lists, and their flow graph. The project's own;
 -- the encodings are those of the Intel SDM, volume 2.
-use Rattle.std.specs.Prelude.{◌≡◌, ◌==◌, ◌&&◌, ◌||◌, ℕ, ◌+◌, ◌≤◌, nat_le, Bool, true, false, List, [], ◌∷◌, ◌++◌, Option, Some, None, length, take, drop, map, filter, IsTrue}
+use Rattle.std.specs.Prelude.{◌≡◌, ◌==◌, ◌&&◌, ◌||◌, ℕ, ◌+◌, ◌≤◌, nat_le, Bool, true, false, List, [], ◌∷◌, ◌++◌, Option, Some, None, length, drop, map, filter, IsTrue}
 use Rattle.std.specs.Int.{bit_at}
 use Rattle.ia32_types.specs.declared.Reg.TheVariants as reg
 use Rattle.ia32_types.specs.declared.Operand.{Operand}

@@ -1,4 +1,4 @@
-use Rattle.std.proofs.Common.{◌≡◌, refl, List, ℕ, subst}
+use Rattle.std.proofs.Common.{refl, List, ℕ, subst}
 use Rattle.surf_prog.specs.Once.{IsUnsupported}
 use Rattle.surf_prog.proofs.RequestLaws.{of_file}
 use Rattle.surf_prog.proofs.request.answer.Goals as goal

@@ -1,6 +1,5 @@
 use Rattle.std.proofs.Common.{refl, map, Ok, Err, arith}
 use Rattle.std.specs.String.{string_bytes}
-use Rattle.surf_base.specs.Shelf.{IsLonger}
 use Rattle.surf_prog.specs.Once.{TellsLine}
 use Rattle.surf_prog.proofs.RequestLaws.{statuses_hold, text_holds, bad_words_hold, shelf_holds, within_holds, unsupported_holds, absent_holds, output_holds, part_holds, untouched_holds, complete_holds, silent_lines, told_lines}
 use Rattle.surf_prog.proofs.RunReply.{writes_dependences}

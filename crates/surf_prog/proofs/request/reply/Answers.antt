@@ -1,4 +1,4 @@
-use Rattle.std.proofs.Common.{◌≡◌, ℕ, List, sym, ◌∙◌, ap, subst, true, false}
+use Rattle.std.proofs.Common.{◌≡◌, List, sym, ◌∙◌, ap, true, false}
 use Rattle.std.specs.List.{list_any}
 use Rattle.std.specs.Prelude.{◌==◌}
 use Rattle.ia32_types.specs.declared.Instr.{Instr}

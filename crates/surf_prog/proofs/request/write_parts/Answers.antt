@@ -1,5 +1,5 @@
 use Rattle.surf_base.specs.Sink.{AppendsPart}
-use Rattle.std.proofs.Common.{◌≡◌, ◌++◌, sym, subst, append_assoc}
+use Rattle.std.proofs.Common.{◌++◌}
 use Rattle.surf_prog.proofs.RequestLaws.{part_longer, part_then, on_err, on_err_then}
 use Rattle.surf_prog.proofs.request.write_parts.Goals as goal
 

@@ -1,10 +1,7 @@
-use Rattle.std.proofs.Common.{◌≡◌, List, [], length, sym, ◌∙◌, ap, subst, arith}
-use Rattle.std.specs.Prelude.{false}
+use Rattle.std.proofs.Common.{◌≡◌, List, [], subst}
 use Rattle.std.proofs.lemmas.List.{nil_from_length}
 use Rattle.ia32_types.specs.declared.Instr.{Instr}
-use Rattle.surf_prog.specs.Slicer.{IsSlice}
-use Rattle.surf_prog.specs.StraightCode.{straight_graph}
-use Rattle.surf_prog.proofs.Backward.{WalkedBack, walked, back_end}
+use Rattle.surf_prog.proofs.Backward.{WalkedBack, back_end}
 use Rattle.surf_prog.proofs.Straight.{straight_slice}
 use Rattle.surf_prog.proofs.slice.backward.Goals as goal
 

@@ -1,4 +1,4 @@
-use Rattle.std.proofs.Common.{◌≡◌, inl, inr, true, false, Result, Ok, Err, refl, sym, ◌∙◌}
+use Rattle.std.proofs.Common.{◌≡◌, inl, inr, false, Result, Ok, Err, refl, sym, ◌∙◌}
 use Rattle.ia32_decode.specs.declared.NotDecoded.{NotDecoded}
 use Rattle.ia32_types.specs.declared.Instr.{Instr}
 use Rattle.ia32_types.specs.Spells.{Begins}

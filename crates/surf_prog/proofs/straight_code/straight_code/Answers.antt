@@ -1,4 +1,4 @@
-use Rattle.std.proofs.Common.{◌≡◌, ℕ, ◌+◌, ◌-◌, ◌≤◌, List, length, take, drop, sym, ◌∙◌, ap, arith, length-drop}
+use Rattle.std.proofs.Common.{◌≡◌, ℕ, ◌+◌, ◌-◌, ◌≤◌, List, length, take, drop, ◌∙◌, ap, arith, length-drop}
 use Rattle.std.proofs.lemmas.List.{take_rest}
 use Rattle.surf_prog.proofs.Straight.{leads_step}
 use Rattle.surf_prog.proofs.straight_code.straight_code.Goals as goal

@@ -1,4 +1,4 @@
-use Rattle.std.proofs.Common.{◌≡◌, ◌≤◌, ◌+◌, ◌-◌, vec_len, length}
+use Rattle.std.proofs.Common.{◌≤◌, ◌+◌, ◌-◌, vec_len, length}
 use Rattle.surf_prog.proofs.Straight.{LeadsTo}
 use Rattle.surf_prog.proofs.straight_code.straight_code.Given as goal
 

@@ -1,7 +1,6 @@
-use Rattle.std.proofs.Common.{◌≡◌, ◌≢◌, ℕ, get_or, MatchOption, sym, ◌∙◌, subst, lit<, arith}
+use Rattle.std.proofs.Common.{◌≢◌, get_or, sym, ◌∙◌, lit<, arith}
 use Rattle.std.proofs.lemmas.Bool.{false≢true}
 use Rattle.std.proofs.lemmas.Str.Pattern.{starts_char}
-use Rattle.surf_prog.specs.Words.{Writes}
 use Rattle.surf_prog.proofs.WordLaws.{read_number, number_below}
 use Rattle.surf_prog.proofs.words.number.Goals as goal
 
