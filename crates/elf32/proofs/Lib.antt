@@ -1,0 +1,9 @@
+pub mod Rows
+pub mod Bytes
+pub mod Targets
+pub mod Folding
+pub mod Sound
+pub mod Texts
+pub mod Values
+pub mod Failing
+pub mod Whole

@@ -1,0 +1,11 @@
+use Rattle.std.proofs.Common.{drop}
+use Rattle.elf32.specs.Checks.{has_type}
+use Rattle.elf32.specs.Names.{symbols_of}
+use Rattle.elf32.specs.Found.{IsFound}
+use Rattle.elf32.proofs.Values.{SectionsRemain}
+use Rattle.elf32.proofs.symbols.add_tables.Given as goal
+
+abbrev pub invariant-loop-section : goal.invariant-loop-section
+invariant-loop-section l =
+    IsFound l.bytes l.found.seen.items l.found.symbols.items
+    × SectionsRemain (symbols_of l.bytes l.bias l.sections) (has_type l.sh_type) l.sections l.initial.found.symbols.items (drop l.section-index l.sections) l.found.symbols.items

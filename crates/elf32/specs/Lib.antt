@@ -1,0 +1,9 @@
+pub mod Fields
+pub mod Checks
+pub mod Names
+pub mod Relocating
+pub mod Shapes
+pub mod Programs
+pub mod Loading
+pub mod Ends
+pub mod Found

@@ -1,0 +1,4 @@
+pub mod Ranges
+pub mod Memory
+pub mod Names
+pub mod Whole

@@ -1,0 +1,34 @@
+-- Spans of addresses. The project's own.
+use Rattle.std.specs.Prelude.{ℕ, ◌≤◌, ◌<◌, min, max, Bool, ◌&&◌, nat_le, nat_lt, if◌then◌else◌, List, [], ◌∷◌, ◌++◌}
+use Rattle.std.specs.List.{list_any}
+use Rattle.image_map.specs.declared.spans.Span.{Span}
+
+-- an address from start up to, and without, end
+abbrev pub within : ℕ → ℕ → ℕ → Bool
+within start end a = nat_le start a && nat_lt a end
+
+-- an address that lies in one of the spans
+abbrev pub is_any : List Span → ℕ → Bool
+is_any spans a = list_any (λ s. within s.start s.end a) spans
+
+-- the spans aren't empty, and each begins at or behind the end of the one before it, the first at or behind low
+abbrev pub IsRisingFrom : ℕ → List Span → Type 0
+IsRisingFrom low [] = Unit {0}
+IsRisingFrom low (s ∷ ss) = (low ≤ s.start) × (s.start < s.end) × IsRisingFrom s.end ss
+
+abbrev pub IsRising : List Span → Type 0
+IsRising spans = IsRisingFrom 0 spans
+
+-- the parts of the spans that lie below an address
+abbrev pub below : ℕ → List Span → List Span
+below limit [] = []
+below limit (s ∷ ss) = if nat_lt s.start limit then record { start = s.start; end = min s.end limit } ∷ below limit ss else below limit ss
+
+-- the parts of the spans that lie at an address or above it
+abbrev pub above : ℕ → List Span → List Span
+above limit [] = []
+above limit (s ∷ ss) = if nat_lt limit s.end then record { start = max s.start limit; end = s.end } ∷ above limit ss else above limit ss
+
+-- the spans with the addresses from start up to end in them, or out of them
+abbrev pub replaced : ℕ → ℕ → Bool → List Span → List Span
+replaced start end any spans = below start spans ++ (if any then record { start = start; end = end } ∷ [] else []) ++ above end spans

@@ -1,0 +1,150 @@
+ghost use Rattle.std.specs.Prelude.{◌≡◌, ◌≤◌, length};
+ghost use Rattle.std.specs.Option.{option_copied};
+ghost use Rattle.image_map.specs.Memory.{holds, has_flag, segment_at, byte_of, is_in};
+ghost use Rattle.image_map.specs.Names.{extern_number, value_of};
+
+use crate::items::Items;
+use crate::name::Name;
+use crate::spans::Spans;
+
+/// The flag of a segment whose bytes are code (System V ABI, ELF: `PF_X`).
+pub const PF_X: u32 = 1;
+
+/// The flag of a segment that may be written (System V ABI, ELF: `PF_W`).
+pub const PF_W: u32 = 2;
+
+/// The flag of a segment that may be read (System V ABI, ELF: `PF_R`).
+pub const PF_R: u32 = 4;
+
+/// The address at which the first extern stands.
+pub const EXTERN_BASE: u32 = 0xF000_0000;
+
+/// How far two neighbouring externs stand apart.
+pub const EXTERN_STEP: u32 = 16;
+
+/// A run of memory of the image: its first address, its bytes, and its `PF_` flags.
+#[derive(Drop)]
+pub struct Segment {
+    pub start: u32,
+    pub bytes: Items<u8>,
+    pub flags: u32,
+}
+
+/// A function or a variable that the image uses and doesn't have.
+#[derive(Drop)]
+pub struct Extern {
+    pub name: Name,
+}
+
+/// A name of the image and its value.
+#[derive(Drop)]
+pub struct Symbol {
+    pub name: Name,
+    pub value: u32,
+}
+
+/// An executable as it stands in memory before its first instruction.
+///
+/// Extern number i stands at `EXTERN_BASE + EXTERN_STEP * i`. The bytes in `any_bytes` may have any
+/// content. `words` lists the places of the words that relocations wrote, in their order.
+#[derive(Drop)]
+pub struct Image {
+    pub segments: Items<Segment>,
+    pub externs: Items<Extern>,
+    pub symbols: Items<Symbol>,
+    pub any_bytes: Spans,
+    pub words: Items<u32>,
+    pub entry: u32,
+    pub bias: u32,
+}
+
+impl Segment {
+    /// Whether an address lies in this segment.
+    pub fn holds(&self, address: u32) -> bool
+        ensures { result ≡ holds address self.now }
+    {
+        self.start <= address && ((address - self.start) as usize) < self.bytes.len()
+    }
+}
+
+/// The first of the segments that holds an address.
+pub fn segment_holding(segments: &[Segment], address: u32) -> Option<&Segment>
+    ensures { option_copied result ≡ segment_at segments.now address }
+{
+    segments.iter().find(|s| s.holds(address))
+}
+
+/// The byte that segments have at an address, or `None` where none has it or it may be any byte.
+pub fn memory_byte(segments: &[Segment], any_bytes: &Spans, address: u32) -> Option<u8>
+    ensures { result ≡ byte_of segments.now any_bytes.now address }
+{
+    if any_bytes.contains(address) {
+        return None;
+    }
+    let segment = segment_holding(segments, address)?;
+    segment
+        .bytes
+        .get(address.saturating_sub(segment.start) as usize)
+        .copied()
+}
+
+impl Image {
+    /// The byte at an address, or `None` where no segment has it or it may be any byte.
+    pub fn byte_at(&self, address: u32) -> Option<u8>
+        ensures { result ≡ byte_of self.now.segments self.now.any_bytes address }
+    {
+        memory_byte(self.segments.as_slice(), &self.any_bytes, address)
+    }
+
+    /// Whether an address lies in a segment whose bytes are code.
+    pub fn is_code(&self, address: u32) -> bool
+        ensures { result ≡ is_in self.now.segments PF_X address }
+    {
+        match segment_holding(self.segments.as_slice(), address) {
+            Some(segment) => segment.flags & PF_X == PF_X,
+            None => false,
+        }
+    }
+
+    /// Whether an address lies in a segment that may be written.
+    pub fn is_writable(&self, address: u32) -> bool
+        ensures { result ≡ is_in self.now.segments PF_W address }
+    {
+        match segment_holding(self.segments.as_slice(), address) {
+            Some(segment) => segment.flags & PF_W == PF_W,
+            None => false,
+        }
+    }
+
+    /// The number of the extern that stands at an address.
+    #[tactic(auto, unfolding(crate::specs::Names::extern_number))]
+    pub fn extern_at(&self, address: u32) -> Option<u32>
+        ensures { result ≡ extern_number (length self.now.externs) address }
+    {
+        if address < EXTERN_BASE {
+            return None;
+        }
+        let offset = address - EXTERN_BASE;
+        if offset % EXTERN_STEP != 0 {
+            return None;
+        }
+        let number = offset / EXTERN_STEP;
+        if (number as usize) < self.externs.len() {
+            Some(number)
+        } else {
+            None
+        }
+    }
+
+    /// The value of the first symbol with a name.
+    pub fn symbol(&self, name: &[u8]) -> Option<u32>
+        ensures { result ≡ value_of self.now.symbols name.now }
+    {
+        let found = self
+            .symbols
+            .as_slice()
+            .iter()
+            .find(|s| s.name.as_slice() == name)?;
+        Some(found.value)
+    }
+}

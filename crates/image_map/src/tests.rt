@@ -1,0 +1,117 @@
+use crate::{
+    EXTERN_BASE, Extern, Image, Items, Name, PF_R, PF_W, PF_X, RegionId, Segment, Span, Spans,
+    Symbol,
+};
+use std::alloc::{AllocError, Global};
+
+fn name(alloc: Global, text: &[u8]) -> Result<Name, AllocError> {
+    Name::from_vec(alloc, Vec::from_slice(alloc, text)?)
+}
+
+fn segment(alloc: Global, start: u32, bytes: &[u8], flags: u32) -> Result<Segment, AllocError> {
+    Ok(Segment {
+        start,
+        bytes: Items::from_slice(alloc, bytes)?,
+        flags,
+    })
+}
+
+fn symbols(alloc: Global) -> Result<Items<Symbol>, AllocError> {
+    let mut symbols = Items::new(alloc);
+    for (text, value) in [(b"main", 1), (b"init", 2), (b"main", 3)] {
+        let name = name(alloc, text)?;
+        symbols.push(Symbol { name, value })?;
+    }
+    Ok(symbols)
+}
+
+/// Two segments that adjoin, one of code and one that may be written, with two bytes of any content.
+fn image(alloc: Global) -> Result<Image, AllocError> {
+    let mut segments = Items::new(alloc);
+    segments.push(segment(alloc, 0x1000, &[1, 2, 3], PF_R | PF_X)?)?;
+    segments.push(segment(alloc, 0x1003, &[4, 5], PF_R | PF_W)?)?;
+    let mut externs = Items::new(alloc);
+    externs.push(Extern {
+        name: name(alloc, b"puts")?,
+    })?;
+    let mut any_bytes = Spans::new(alloc);
+    any_bytes.set(alloc, 0x1002, 0x1004, true)?;
+    Ok(Image {
+        segments,
+        externs,
+        symbols: symbols(alloc)?,
+        any_bytes,
+        words: Items::new(alloc),
+        entry: 0x1000,
+        bias: 0,
+    })
+}
+
+#[test]
+fn queries_read_the_image(rt: HostRuntime) {
+    let image = image(rt.alloc()).expect(&rt, "memory");
+    assert_eq!(rt; image.byte_at(0xFFF), None);
+    assert_eq!(rt; image.byte_at(0x1000), Some(1));
+    assert_eq!(rt; image.byte_at(0x1002), None);
+    assert_eq!(rt; image.byte_at(0x1003), None);
+    assert_eq!(rt; image.byte_at(0x1004), Some(5));
+    assert_eq!(rt; image.byte_at(0x1005), None);
+    assert!(rt; image.is_code(0x1002));
+    assert!(rt; !image.is_code(0x1003));
+    assert!(rt; !image.is_code(0x1005));
+    assert!(rt; image.is_writable(0x1003));
+    assert!(rt; !image.is_writable(0x1002));
+    assert_eq!(rt; image.extern_at(EXTERN_BASE), Some(0));
+    assert_eq!(rt; image.extern_at(EXTERN_BASE + 8), None);
+    assert_eq!(rt; image.extern_at(EXTERN_BASE + 16), None);
+    assert_eq!(rt; image.extern_at(0x1000), None);
+    assert_eq!(rt; image.symbol(b"main"), Some(1));
+    assert_eq!(rt; image.symbol(b"init"), Some(2));
+    assert_eq!(rt; image.symbol(b"mai"), None);
+}
+
+#[test]
+fn spans_are_cut_and_joined(rt: HostRuntime) {
+    let alloc = rt.alloc();
+    let mut spans = Spans::new(alloc);
+    spans.set(alloc, 10, 20, true).expect(&rt, "memory");
+    spans.set(alloc, 30, 40, true).expect(&rt, "memory");
+    spans.set(alloc, 15, 32, false).expect(&rt, "memory");
+    spans.set(alloc, 18, 19, true).expect(&rt, "memory");
+    let ends = |s: &Span| (s.start, s.end);
+    let found: Vec<(u32, u32)> = spans
+        .as_slice()
+        .iter()
+        .map(ends)
+        .collect(alloc)
+        .expect(&rt, "memory");
+    assert_eq!(rt; found.as_slice(), [(10, 15), (18, 19), (32, 40)].as_slice());
+    assert!(rt; spans.contains(14));
+    assert!(rt; !spans.contains(15));
+}
+
+#[test]
+fn names_share_a_buffer(rt: HostRuntime) {
+    let alloc = rt.alloc();
+    let text = Vec::from_slice(alloc, b"printf").expect(&rt, "memory");
+    let buffer = std::sync::Arc::new(alloc, text).expect(&rt, "memory");
+    let tail = Name::within(&buffer, 5, 6).expect(&rt, "memory");
+    let whole = Name::within(&buffer, 0, 6).expect(&rt, "memory");
+    assert_eq!(rt; tail.as_slice(), b"f".as_slice());
+    assert_eq!(rt; whole.as_slice(), b"printf".as_slice());
+}
+
+#[test]
+fn regions_are_ordered(rt: HostRuntime) {
+    let rising = [
+        RegionId::Global,
+        RegionId::Frame(7),
+        RegionId::Frame(9),
+        RegionId::OldFrame(0),
+        RegionId::Heap(0),
+        RegionId::OldHeap(0),
+    ];
+    for (low, high) in rising.iter().zip(&rising[1..]) {
+        assert!(rt; low < high);
+    }
+}

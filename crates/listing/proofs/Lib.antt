@@ -1,0 +1,3 @@
+pub mod OneBegins
+pub mod FetchLaws
+pub mod ListingLaws
