@@ -1,5 +1,5 @@
 // The outside as it is: files and the standard streams. Nothing is told of what they hold.
-ghost use Rattle.std.specs.Prelude.{◌≤◌, None, length, IfOk};
+ghost use Rattle.std.specs.Prelude.{◌≡◌, ◌≤◌, None, length, IfOk};
 
 use std::alloc::Global;
 use std::io::Read;
@@ -18,7 +18,10 @@ pub struct FileShelf<'a, R: Files> {
 }
 
 impl<'a, R: Files> FileShelf<'a, R> {
-    pub fn new(files: &'a R) -> Self {
+    /// No fault is counted yet.
+    pub fn new(files: &'a R) -> Self
+        ensures { result.faults ≡ 0 }
+    {
         FileShelf { files, faults: 0 }
     }
 }
@@ -87,7 +90,10 @@ pub struct StreamSink<S: Print> {
 }
 
 impl<S: Print> StreamSink<S> {
-    pub fn new(stream: S) -> Self {
+    /// No fault is counted yet.
+    pub fn new(stream: S) -> Self
+        ensures { result.faults ≡ 0 }
+    {
         StreamSink { stream, faults: 0 }
     }
 }
