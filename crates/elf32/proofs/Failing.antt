@@ -1,5 +1,5 @@
 -- Which check is the first that fails.
-use Rattle.std.proofs.Common.{◌≡◌, ℕ, Bool, true, false, cond, Option, Some, None, Result, Ok, Err, List, [], ◌∷◌, length, refl, ap, sym, ◌∙◌}
+use Rattle.std.proofs.Common.{◌≡◌, ℕ, Bool, Option, Some, None, Result, Ok, Err, List, length, refl, ap, sym, ◌∙◌}
 use Rattle.std.specs.List.{list_any, flat_map}
 use Rattle.elf32.specs.declared.error.ElfError.{ElfError}
 use Rattle.elf32.specs.declared.error.ElfError.TheVariants as errors

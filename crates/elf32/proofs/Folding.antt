@@ -1,12 +1,11 @@
 -- Relocations, one after the other, as loops over entries and over sections apply them.
-use Rattle.std.proofs.Common.{◌≡◌, ◌⊎◌, inl, inr, ℕ, suc, ◌+◌, ◌-◌, ◌≤◌, ◌<◌, Option, Some, None, Result, Ok, Err, List, [], ◌∷◌, ◌++◌, refl, ap, sym, ◌∙◌, add-one, append_assoc, arith, drop, length, get_or}
+use Rattle.std.proofs.Common.{◌≡◌, ◌⊎◌, inl, inr, ℕ, ◌+◌, ◌-◌, ◌≤◌, ◌<◌, Result, Ok, Err, List, ◌∷◌, ◌++◌, refl, ap, sym, ◌∙◌, add-one}
 use Rattle.std.specs.List.{flat_map}
-use Rattle.std.proofs.lemmas.List.{append-nil}
 use Rattle.elf32.specs.declared.error.ElfError.{ElfError}
 use Rattle.elf32.specs.declared.fields.ProgramHeader.{ProgramHeader}
 use Rattle.elf32.specs.declared.fields.Relocation.{Relocation}
 use Rattle.elf32.specs.Fields.{rows, rows_from}
-use Rattle.elf32.specs.Relocating.{Relocated, step, and_then, relocated, Advances, Stops}
+use Rattle.elf32.specs.Relocating.{Relocated, step, relocated, Advances, Stops}
 use Rattle.elf32.proofs.Rows.{rows_step, rows_end}
 
 -- a relocation that is applied, and then the rest

@@ -1,14 +1,13 @@
 -- What the checks on segments leave.
-use Rattle.std.proofs.Common.{◌≡◌, ℕ, suc, zero, ◌+◌, ◌-◌, ◌≤◌, ◌<◌, min, Bool, true, false, cond, ◌&&◌, ◌||◌, nat_le, nat_lt, Option, Some, None, List, [], ◌∷◌, ◌++◌, refl, ap, sym, subst, ◌∙◌, arith, map, length, take, drop, get_or, length-append, length-drop}
-use Rattle.std.specs.Prelude.{replicate}
+use Rattle.std.proofs.Common.{◌≡◌, ℕ, suc, zero, ◌+◌, ◌-◌, ◌≤◌, ◌<◌, min, Bool, true, false, cond, ◌&&◌, ◌||◌, nat_lt, Option, Some, None, List, [], ◌∷◌, ◌++◌, refl, ap, sym, ◌∙◌, arith, map, length, get_or, length-append, length-drop}
 use Rattle.std.proofs.lemmas.List.{length-replicate, length-take}
 use Rattle.std.proofs.lemmas.Bool.Decides.{nat_tests}
 use Rattle.std.proofs.lemmas.Option.{none-some}
 use Rattle.elf32.specs.declared.error.ElfError.{ElfError}
 use Rattle.elf32.specs.declared.fields.ProgramHeader.{ProgramHeader}
-use Rattle.elf32.specs.Checks.{or_else, when, own_cause, load_cause, loads_cause, segments_cause, start_of, end_of, is_writable_code}
+use Rattle.elf32.specs.Checks.{or_else, own_cause, load_cause, loads_cause, segments_cause, start_of, end_of, is_writable_code}
 use Rattle.elf32.specs.Loading.{segment}
-use Rattle.elf32.specs.Shapes.{Shape, shape, shapes, load_shape, AreLow}
+use Rattle.elf32.specs.Shapes.{shape, shapes, load_shape, AreLow}
 
 -- a loaded segment of a file of n bytes that is no cause to refuse the file
 pub record IsSound (n b : ℕ) (h : ProgramHeader) : Type 0 where

@@ -1,12 +1,12 @@
 -- The segment that has the word of a relocation.
-use Rattle.std.proofs.Common.{◌≡◌, ℕ, ◌+◌, ◌-◌, ◌≤◌, ◌<◌, Bool, true, false, cond, ◌&&◌, ◌||◌, nat_le, nat_lt, Option, Some, None, List, [], ◌∷◌, refl, ap, sym, subst, ◌∙◌, arith, map}
+use Rattle.std.proofs.Common.{◌≡◌, ℕ, ◌+◌, ◌≤◌, ◌<◌, Bool, true, false, cond, ◌||◌, Option, Some, List, [], ◌∷◌, refl, ap, subst, arith, map}
 use Rattle.std.specs.List.{list_any, find}
 use Rattle.std.proofs.lemmas.Bool.Decides.{nat_tests}
 use Rattle.std.proofs.lemmas.Option.{none-some}
 use Rattle.elf32.specs.declared.fields.ProgramHeader.{ProgramHeader}
-use Rattle.elf32.specs.Checks.{start_of, end_of}
+use Rattle.elf32.specs.Checks.{end_of}
 use Rattle.elf32.specs.Relocating.{has_word}
-use Rattle.elf32.specs.Shapes.{Shape, in_shape, load_shape, AreLow, has_whole_word}
+use Rattle.elf32.specs.Shapes.{in_shape, load_shape, AreLow, has_whole_word}
 
 in_word : (b place k : ℕ) (h : ProgramHeader) → has_word b place h ≡ true → k < 4 → in_shape (place + k) (load_shape b h) ≡ true
 in_word b place k h w lt = grind (arith, nat_tests)

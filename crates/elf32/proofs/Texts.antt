@@ -1,13 +1,16 @@
 -- Texts that end in a NUL, in a part of a file.
-use Rattle.std.proofs.Common.{◌≡◌, ◌⊎◌, inl, inr, ℕ, suc, zero, ◌+◌, ◌-◌, ◌≤◌, ◌<◌, min, Bool, true, false, not, cond, ◌&&◌, nat_lt, Option, Some, None, List, [], ◌∷◌, length, take, drop, refl, ap, sym, ◌∙◌, arith, length-drop}
-use Rattle.std.specs.Prelude.{slice_range, ◌==◌}
-use Rattle.std.specs.List.{prefix_len, position_or_len, position}
+use Rattle.std.proofs.Common.{◌≡◌, ◌≢◌, ◌⊎◌, inl, inr, ℕ, suc, zero, ◌+◌, ◌-◌, ◌≤◌, ◌<◌, min, Bool, true, false, not, cond, nat_lt, Some, None, List, [], ◌∷◌, length, take, drop, refl, ap, sym, ◌∙◌, arith, length-drop, get_or, eqb, eq-eqb}
+use Rattle.std.specs.Prelude.{slice_range, slice_set, ◌==◌}
+use Rattle.std.specs.List.{prefix_len}
 use Rattle.std.specs.Option.{option_map_or}
-use Rattle.std.proofs.lemmas.List.{length-take}
-use Rattle.std.proofs.lemmas.Bool.{ltb-true, ltb-false}
+use Rattle.std.proofs.lemmas.List.{length-take, get_or-set_same, get_or-set_other}
+use Rattle.std.proofs.lemmas.Bool.{ltb-true, ltb-false, eqb-true}
 use Rattle.std.proofs.lemmas.Bool.Decides.{nat_tests}
 use Rattle.elf32.specs.Names.{c_string}
-use Rattle.elf32.specs.Ends.{text_len}
+use Rattle.std.proofs.Math.Seq.{drop-cons}
+use Rattle.image_map.specs.declared.hash.TheConstants.{EMPTY_HASH}
+use Rattle.image_map.specs.Hashes.{hash_before, hash_of}
+use Rattle.elf32.specs.Ends.{text_len, first_text}
 use Rattle.elf32.proofs.Bytes.{choice}
 
 shorter : (b : Bool) (m k r : ℕ) → r ≡ min m k → cond b (1 + r) 0 ≡ min (suc m) (cond b (1 + k) 0)
@@ -122,3 +125,35 @@ text_miss f start limit e lt is miss =
       | inl none ↦ sym (c_empty (take m ys) (omega (arith, len, none)))
       | inr long ↦ sym (c_none (take m ys) (omega (arith, len, all, long)))
     ]
+
+hash_go : (b : Bool) (x n hash : ℕ) (ys : List ℕ) → hash ≡ hash_of (take n ys) → cond b EMPTY_HASH (hash_before x hash) ≡ hash_of (take (cond (not b) (1 + n) 0) (x ∷ ys))
+hash_go true x n hash ys same = refl
+hash_go false x n hash ys same = let e : 1 + n ≡ suc n = omega arith in rw e (ap (hash_before x) same)
+
+-- the hash of the first text with one byte more before it
+pub hash_first : (f : List ℕ) (at n hash : ℕ) → n ≡ at + 1 → at < length f → hash ≡ hash_of (first_text (drop n f))
+    → cond (get_or f at 0 == 0) EMPTY_HASH (hash_before (get_or f at 0) hash) ≡ hash_of (first_text (drop at f))
+hash_first f at n hash is lt same =
+    let next : n ≡ suc at = omega arith in
+    let cut : drop at f ≡ get_or f at 0 ∷ drop (suc at) f = drop-cons f at 0 lt in
+    rw cut (hash_go (get_or f at 0 == 0) (get_or f at 0) (text_len (drop (suc at) f)) hash (drop (suc at) f) (same ∙ ap (λ k. hash_of (first_text (drop k f))) next))
+
+-- what a place of a list that was written to has, and each later one
+pub written : (xs : List ℕ) (at n v : ℕ) (want : ℕ → ℕ) → n ≡ at + 1 → at < length xs → v ≡ want at → ((k : ℕ) → n ≤ k → k < length xs → get_or xs k 0 ≡ want k)
+    → (k : ℕ) → at ≤ k → k < length xs → get_or (slice_set xs at v) k 0 ≡ want k
+written xs at n v want is lt here later k le inside =
+    choice {A = Bool} (eqb k at) true false (λ _. get_or (slice_set xs at v) k 0 ≡ want k)
+    (λ yes. let e : k ≡ at = eqb-true k at yes in rw (e, get_or-set_same xs at v 0 lt) here)
+    (λ no. let ne : k ≢ at = λ e. (let b : true ≡ false = sym (eq-eqb k at e) ∙ no in cc) in
+    get_or-set_other xs at k v 0 ne ∙ later k (omega (arith, ne)) inside)
+
+-- behind the last byte stands the empty text
+pub hash_last : (f : List ℕ) → EMPTY_HASH ≡ hash_of (first_text (drop (length f) f))
+hash_last [] = refl
+hash_last (x ∷ f) = hash_last f
+
+-- the hash of a text by its ends
+pub hash_between : (f : List ℕ) (start e hash : ℕ) → e ≡ start + text_len (drop start f) → hash ≡ hash_of (first_text (drop start f)) → hash ≡ hash_of (slice_range f start e)
+hash_between f start e hash is same =
+    let width : e - start ≡ text_len (drop start f) = omega arith in
+    same ∙ ap (λ n. hash_of (take n (drop start f))) (sym width)

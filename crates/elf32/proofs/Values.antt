@@ -1,5 +1,5 @@
 -- Values of names in lists of symbols, and the lists that loops over tables make.
-use Rattle.std.proofs.Common.{◌≡◌, ◌≢◌, ℕ, suc, zero, ◌+◌, ◌-◌, ◌≤◌, ◌<◌, Bool, true, false, cond, Option, Some, None, List, [], ◌∷◌, ◌++◌, length, drop, filter, refl, ap, sym, subst, ◌∙◌, append_assoc, arith, get_or, eqb, eq-eqb}
+use Rattle.std.proofs.Common.{◌≡◌, ◌≢◌, ℕ, suc, zero, ◌+◌, ◌-◌, ◌≤◌, ◌<◌, Bool, true, false, cond, Option, Some, None, List, [], ◌∷◌, ◌++◌, length, filter, refl, ap, sym, subst, ◌∙◌, append_assoc, get_or, eqb, eq-eqb}
 use Rattle.std.specs.Prelude.{is_some, slice_set, replicate}
 use Rattle.std.specs.List.{find, filter_map, flat_map, cons_option}
 use Rattle.std.specs.Option.{option_map}
@@ -7,11 +7,10 @@ use Rattle.std.specs.Str.{bytes_eq}
 use Rattle.std.specs.Cmp.Lexicographic.{same_text}
 use Rattle.std.proofs.lemmas.Bool.{eqb-true}
 use Rattle.std.proofs.lemmas.List.{append-nil, length-set, length-replicate, get_or-set_other}
-use Rattle.image_map.specs.declared.image.Symbol.{Symbol}
-use Rattle.image_map.specs.Names.{value_of}
-use Rattle.elf32.specs.Ends.{text_len, IsText}
+use Rattle.image_map.specs.declared.symbols.Symbol.{Symbol}
+use Rattle.image_map.specs.Names.{value_of, HaveSameValues}
 use Rattle.elf32.specs.Fields.{rows, rows_from}
-use Rattle.elf32.specs.Found.{text_at, IsFound, SameValues, Adds}
+use Rattle.elf32.specs.Found.{text_at, IsFound, Adds}
 use Rattle.elf32.proofs.Bytes.{choice}
 use Rattle.elf32.proofs.Rows.{rows_step, rows_end}
 
@@ -46,7 +45,7 @@ skip_go true v (Some x) r h = refl
 skip_go false v k r h = refl
 
 -- a symbol whose name is there already adds nothing
-pub known_name : (kept rest : List Symbol) (s : Symbol) → is_some (value_of kept s.name) ≡ true → SameValues (kept ++ (s ∷ rest)) (kept ++ rest)
+pub known_name : (kept rest : List Symbol) (s : Symbol) → is_some (value_of kept s.name) ≡ true → HaveSameValues (kept ++ (s ∷ rest)) (kept ++ rest)
 known_name kept rest s known n =
     value_append kept (s ∷ rest) n
     ∙ (ap (λ v. first (value_of kept n) v) (head_value s rest n)
@@ -97,7 +96,7 @@ found_none f seen is = record {
 
 -- the state of a loop over the rows of a table
 abbrev pub RowsRemain : {A : Type 0} → (A → Option Symbol) → (ℕ → A) → ℕ → List Symbol → ℕ → List Symbol → Type 0
-RowsRemain g row n old at now = (rest : List Symbol) → SameValues (now ++ (filter_map g (rows_from row at (n - at)) ++ rest)) (old ++ (filter_map g (rows row n) ++ rest))
+RowsRemain g row n old at now = (rest : List Symbol) → HaveSameValues (now ++ (filter_map g (rows_from row at (n - at)) ++ rest)) (old ++ (filter_map g (rows row n) ++ rest))
 
 next_row : {A : Type 0} (g : A → Option Symbol) (row : ℕ → A) (n at : ℕ) → at < n
     → filter_map g (rows_from row at (n - at)) ≡ cons_option (g (row at)) (filter_map g (rows_from row (at + 1) (n - (at + 1))))
@@ -121,7 +120,7 @@ rows_over g row n at old now le so_far = λ rest m. ap (λ v. value_of (now ++ (
 
 -- the state of a loop over sections
 abbrev pub SectionsRemain : {A : Type 0} → (A → List Symbol) → (A → Bool) → List A → List Symbol → List A → List Symbol → Type 0
-SectionsRemain of p ss old left now = (rest : List Symbol) → SameValues (now ++ (flat_map of (filter p left) ++ rest)) (old ++ (flat_map of (filter p ss) ++ rest))
+SectionsRemain of p ss old left now = (rest : List Symbol) → HaveSameValues (now ++ (flat_map of (filter p left) ++ rest)) (old ++ (flat_map of (filter p ss) ++ rest))
 
 section_go : {A : Type 0} (b : Bool) (of : A → List Symbol) (s : A) (left : List A) (rest : List Symbol)
     → flat_map of (cond b (s ∷ left) left) ++ rest ≡ cond b (of s) [] ++ (flat_map of left ++ rest)
@@ -136,6 +135,6 @@ section_added of p ss s left all old now next is adds so_far = λ rest m.
     ∙ (ap (λ v. value_of (now ++ (flat_map of (filter p v) ++ rest)) m) (sym is) ∙ so_far rest m))
 
 -- the values after the tables of both types
-pub both_types : (start one two first_ones all_ones : List Symbol) → start ≡ [] → Adds start one first_ones → Adds one two all_ones → SameValues two (first_ones ++ all_ones)
+pub both_types : (start one two first_ones all_ones : List Symbol) → start ≡ [] → Adds start one first_ones → Adds one two all_ones → HaveSameValues two (first_ones ++ all_ones)
 both_types start one two xs ys none a b = λ m.
     ap (λ v. value_of v m) (sym (append-nil two)) ∙ (b [] m ∙ (a (ys ++ []) m ∙ (ap (λ v. value_of (v ++ (xs ++ (ys ++ []))) m) none ∙ ap (λ v. value_of (xs ++ v) m) (append-nil ys))))

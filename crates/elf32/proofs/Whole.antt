@@ -1,15 +1,15 @@
 -- What a file says is an image: its segments are placed and share no address, and its externs are few.
-use Rattle.std.proofs.Common.{◌≡◌, ◌⊎◌, inl, inr, ℕ, suc, ◌+◌, ◌≤◌, ◌<◌, Bool, true, false, cond, ◌&&◌, ◌||◌, nat_lt, eqb, Option, Some, None, Result, Ok, Err, List, [], ◌∷◌, ◌++◌, refl, ap, sym, subst, ◌∙◌, arith, map, length}
-use Rattle.std.specs.Prelude.{bit_and, ◌==◌, IfOk}
+use Rattle.std.proofs.Common.{◌≡◌, ◌⊎◌, inl, inr, ℕ, suc, ◌+◌, ◌≤◌, Bool, true, false, cond, ◌&&◌, ◌||◌, nat_lt, Option, Some, None, Result, Ok, Err, List, [], ◌∷◌, ◌++◌, refl, ap, sym, subst, ◌∙◌, arith, map, length}
+use Rattle.std.specs.Prelude.{bit_and, ◌==◌}
 use Rattle.std.specs.List.{find}
-use Rattle.std.proofs.lemmas.Bool.{ltb-true, ltb-false}
+use Rattle.std.proofs.lemmas.Bool.{ltb-false}
 use Rattle.std.proofs.lemmas.Bool.Decides.{nat_tests}
 use Rattle.std.proofs.lemmas.List.{length-map}
 use Rattle.std.proofs.lemmas.Option.{none-some}
 use Rattle.image_map.specs.declared.image.Segment.{Segment}
 use Rattle.image_map.specs.declared.image.Image.{Image}
 use Rattle.image_map.specs.declared.image.Extern.{Extern}
-use Rattle.image_map.specs.Whole.{IsPlaced, AreApart, IsApartFrom, ArePlaced, IsImage}
+use Rattle.image_map.specs.Whole.{IsApartFrom, ArePlaced, IsImage}
 use Rattle.elf32.specs.declared.error.ElfError.{ElfError}
 use Rattle.elf32.specs.declared.error.ElfError.TheVariants as errors
 use Rattle.elf32.specs.declared.fields.ProgramHeader.{ProgramHeader}
@@ -18,9 +18,9 @@ use Rattle.elf32.specs.declared.fields.Relocation.{Relocation}
 use Rattle.elf32.specs.Checks.{or_else, when, overlap, shares_address, own_cause, load_cause, loads_cause, segments_cause, start_of, end_of, memory_of, wrong_segments, bias, loads, sections}
 use Rattle.elf32.specs.Relocating.{Relocated, step, step_at, step_with, relocated, and_then, externs_after, is_kind, target}
 use Rattle.elf32.specs.Shapes.{Shape, shape, shapes, load_shape}
-use Rattle.elf32.specs.Loading.{extern_name, outcome, begun, relocations, failure, Shows, Loads}
+use Rattle.elf32.specs.Loading.{extern_name, outcome, begun, relocations, Shows}
 use Rattle.elf32.proofs.Bytes.{choice}
-use Rattle.elf32.proofs.Sound.{IsSound, neither, own_sound}
+use Rattle.elf32.proofs.Sound.{neither, own_sound}
 
 record IsPlacedShape (s : Shape) : Type 0 where
   low : 0x1000 ≤ s.start

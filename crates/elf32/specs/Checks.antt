@@ -5,7 +5,7 @@ use Rattle.elf32.specs.declared.error.ElfError.{ElfError}
 use Rattle.elf32.specs.declared.error.ElfError.TheVariants as errors
 use Rattle.elf32.specs.declared.fields.ProgramHeader.{ProgramHeader}
 use Rattle.elf32.specs.declared.fields.SectionHeader.{SectionHeader}
-use Rattle.elf32.specs.Fields.{octet, half, word, e_type, e_machine, e_phoff, e_phnum, e_phentsize, e_shoff, e_shnum, e_shentsize, program_header, section_header, rows}
+use Rattle.elf32.specs.Fields.{octet, e_type, e_machine, e_phoff, e_phnum, e_phentsize, e_shoff, e_shnum, e_shentsize, program_header, section_header, rows}
 
 -- a cause, where a test fails
 abbrev pub when : Bool → ElfError → Option ElfError

@@ -1,5 +1,5 @@
 -- The fields of an ELF32 file by their offsets (System V ABI, "Object Files": Elf32_Ehdr, Elf32_Phdr, Elf32_Shdr, Elf32_Sym).
-use Rattle.std.specs.Prelude.{ℕ, suc, zero, ◌+◌, ◌*◌, ◌/◌, ◌%◌, nat_lt, if◌then◌else◌, List, [], ◌∷◌, length, drop, slice_index}
+use Rattle.std.specs.Prelude.{ℕ, suc, zero, ◌+◌, ◌*◌, nat_lt, if◌then◌else◌, List, [], ◌∷◌, length, drop, slice_index}
 use Rattle.byteorder.specs.Endian.{little_number}
 use Rattle.elf32.specs.declared.fields.ProgramHeader.{ProgramHeader}
 use Rattle.elf32.specs.declared.fields.SectionHeader.{SectionHeader}

@@ -1,8 +1,7 @@
 -- Symbols that have been found, where a later one of a name that stands at the same place is left out. The project's own.
-use Rattle.std.specs.Prelude.{ℕ, ◌≡◌, ◌+◌, Bool, true, false, Option, Some, None, is_some, List, [], ◌∷◌, ◌++◌, length, drop, slice_range, slice_index_or}
-use Rattle.std.specs.Option.{option_map}
-use Rattle.image_map.specs.declared.image.Symbol.{Symbol}
-use Rattle.image_map.specs.Names.{value_of}
+use Rattle.std.specs.Prelude.{ℕ, ◌≡◌, ◌+◌, Bool, true, false, is_some, List, ◌++◌, length, drop, slice_range, slice_index_or}
+use Rattle.image_map.specs.declared.symbols.Symbol.{Symbol}
+use Rattle.image_map.specs.Names.{value_of, HaveSameValues}
 use Rattle.elf32.specs.declared.symbols.Place.{Place}
 use Rattle.elf32.specs.Ends.{text_len}
 
@@ -15,14 +14,10 @@ pub record IsFound (f : List ℕ) (seen : List Bool) (symbols : List Symbol) : T
   pub all : length seen ≡ length f
   pub each : (p : ℕ) → slice_index_or seen p false ≡ true → is_some (value_of symbols (text_at f p)) ≡ true
 
--- two lists have the same value for each name
-abbrev pub SameValues : List Symbol → List Symbol → Type 0
-SameValues xs ys = (n : List ℕ) → value_of xs n ≡ value_of ys n
-
 -- the values are those of the old symbols, then those that were added, whatever symbols follow
 abbrev pub Adds : List Symbol → List Symbol → List Symbol → Type 0
-Adds old new added = (rest : List Symbol) → SameValues (new ++ rest) (old ++ (added ++ rest))
+Adds old new added = (rest : List Symbol) → HaveSameValues (new ++ rest) (old ++ (added ++ rest))
 
 -- the symbol of a place
 abbrev pub symbol_at : List ℕ → Place → Symbol
-symbol_at f p = record { name = slice_range f p.start p.end; value = p.value }
+symbol_at f p = record { name = slice_range f p.text.start p.text.end; value = p.value }

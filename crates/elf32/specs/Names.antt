@@ -1,8 +1,8 @@
 -- Names in string tables, and the symbols of a file (System V ABI, "String Table", "Symbol Table").
-use Rattle.std.specs.Prelude.{ℕ, suc, ◌+◌, ◌/◌, ◌%◌, ◌^◌, Bool, not, ◌&&◌, nat_eq, ◌==◌, if◌then◌else◌, Option, Some, None, List, [], ◌∷◌, ◌++◌, length, filter, take, drop, position, slice_get}
+use Rattle.std.specs.Prelude.{ℕ, ◌+◌, ◌/◌, ◌%◌, ◌^◌, ◌==◌, if◌then◌else◌, Option, Some, None, List, [], ◌∷◌, ◌++◌, filter, take, drop, position, slice_get}
 use Rattle.std.specs.List.{flat_map, filter_map}
 use Rattle.std.specs.Option.{option_and_then, option_map_or}
-use Rattle.image_map.specs.declared.image.Symbol.{Symbol}
+use Rattle.image_map.specs.declared.symbols.Symbol.{Symbol}
 use Rattle.elf32.specs.declared.fields.SectionHeader.{SectionHeader}
 use Rattle.elf32.specs.declared.fields.SymbolEntry.{SymbolEntry}
 use Rattle.elf32.specs.Fields.{symbol_entry, rows}

@@ -1,6 +1,6 @@
 -- Relocations, folded in the order of their entries (System V ABI, "Relocation"; Intel386 supplement, "Relocation Types"). What an undefined symbol and a copied variable stand for is the project's own.
-use Rattle.std.specs.Prelude.{ℕ, ◌≡◌, suc, ◌+◌, ◌*◌, ◌-◌, ◌/◌, ◌%◌, ◌^◌, min, Bool, not, ◌&&◌, ◌||◌, nat_lt, nat_le, nat_eq, ◌==◌, if◌then◌else◌, Option, Some, None, is_none, unwrap_or, Result, Ok, Err, List, [], ◌∷◌, ◌++◌, length, find, position}
-use Rattle.std.specs.List.{list_any, flat_map}
+use Rattle.std.specs.Prelude.{ℕ, ◌≡◌, suc, ◌+◌, ◌*◌, ◌-◌, ◌/◌, ◌%◌, ◌^◌, min, Bool, ◌&&◌, ◌||◌, nat_lt, nat_le, ◌==◌, if◌then◌else◌, Option, Some, None, unwrap_or, Result, Ok, Err, List, [], ◌∷◌, ◌++◌, length, find, position}
+use Rattle.std.specs.List.{list_any}
 use Rattle.std.specs.Option.{option_and_then, option_map, option_map_or}
 use Rattle.image_map.specs.Names.{extern_address}
 use Rattle.image_map.specs.Ranges.{within}

@@ -5,7 +5,7 @@ ghost use Rattle.std.specs.Arc.{arc_value};
 ghost use Rattle.image_map.specs.Whole.{IsImage};
 ghost use Rattle.elf32.specs.declared.error.ElfError.TheVariants as errors;
 ghost use Rattle.elf32.specs.Checks.{bias as bias_of, loads as loads_of, sections as sections_of, segments_cause};
-ghost use Rattle.elf32.specs.Ends.{AreEnds, IsText, text_of};
+ghost use Rattle.elf32.specs.Ends.{AreTexts, IsText, text_of};
 ghost use Rattle.elf32.specs.Loading.{header_failure, begun, extern_name, failure, Shows, Loads};
 ghost use Rattle.elf32.specs.Programs.{shown};
 ghost use Rattle.elf32.specs.Relocating.{relocated, relocations_of};
@@ -19,10 +19,10 @@ use crate::error::ElfError;
 use crate::fields::{ProgramHeader, SectionHeader, SymbolId, symbol_entry, word};
 use crate::load::segments;
 use crate::memory::Memory;
-use crate::names::{name_span, text_ends};
+use crate::names::{Text, Texts, find_texts, name_at};
 use crate::relocate::{Program, relocate_all};
 use crate::symbols::symbols;
-use image_map::{Extern, Image, Items, Name, Spans};
+use image_map::{EMPTY_HASH, Extern, Image, Items, Name, Spans};
 use std::alloc::{AllocError, Global};
 use std::sync::Arc;
 
@@ -43,22 +43,22 @@ fn header_failure(bytes: &[u8]) -> Option<ElfError>
     short_tables(bytes)
 }
 
-/// Where the name of an extern stands.
-fn extern_span(
+/// The name of an extern in the file.
+fn extern_text(
     bytes: &[u8],
-    ends: &[u32],
+    texts: &Texts,
     sections: &[SectionHeader],
     id: &SymbolId,
-) -> Option<(usize, usize)>
-    requires { AreEnds bytes.now ends.now }
+) -> Option<Text>
+    requires { AreTexts bytes.now texts.now }
     ensures name { text_of bytes.now result ≡ extern_name bytes.now sections.now id.now }
-    ensures is_text { IfSome result (λ s. IsText bytes.now s) }
+    ensures is_text { IfSome result (λ t. IsText bytes.now t) }
 {
     match sections.get(id.table as usize) {
         None => None,
         Some(table) => {
             let entry = symbol_entry(bytes, table.sh_offset, id.index);
-            name_span(bytes, ends, sections, table.sh_link, entry.st_name)
+            name_at(bytes, texts, sections, table.sh_link, entry.st_name)
         }
     }
 }
@@ -66,21 +66,21 @@ fn extern_span(
 fn extern_of(
     bytes: &[u8],
     buffer: &Arc<Vec<u8>, Global>,
-    ends: &[u32],
+    texts: &Texts,
     sections: &[SectionHeader],
     id: &SymbolId,
 ) -> Result<Extern, AllocError>
     requires same { (arc_value buffer.now).items ≡ bytes.now }
-    requires ends { AreEnds bytes.now ends.now }
+    requires texts { AreTexts bytes.now texts.now }
     ensures { IfOk result (λ e. e.name ≡ extern_name bytes.now sections.now id.now) }
 {
-    match extern_span(bytes, ends, sections, id) {
+    match extern_text(bytes, texts, sections, id) {
         None => {
-            let name = Name::within(buffer, 0, 0)?;
+            let name = Name::within(buffer, 0, 0, EMPTY_HASH)?;
             Ok(Extern { name })
         }
-        Some((start, end)) => {
-            let name = Name::within(buffer, start, end)?;
+        Some(text) => {
+            let name = Name::within(buffer, text.start, text.end, text.hash)?;
             Ok(Extern { name })
         }
     }
@@ -91,17 +91,17 @@ fn externs(
     alloc: Global,
     bytes: &[u8],
     buffer: &Arc<Vec<u8>, Global>,
-    ends: &[u32],
+    texts: &Texts,
     sections: &[SectionHeader],
     ids: &[SymbolId],
 ) -> Result<Vec<Extern>, AllocError>
     requires same { (arc_value buffer.now).items ≡ bytes.now }
-    requires ends { AreEnds bytes.now ends.now }
+    requires texts { AreTexts bytes.now texts.now }
     ensures { IfOk result (λ v. map (λ e. e.name) v.items ≡ map (extern_name bytes.now sections.now) ids.now) }
 {
     let mut externs = Vec::new(alloc);
     for id in ids {
-        let found = extern_of(bytes, buffer, ends, sections, id)?;
+        let found = extern_of(bytes, buffer, texts, sections, id)?;
         externs.push(found)?;
     }
     Ok(externs)
@@ -147,15 +147,15 @@ fn image(
     requires shapes { shapes program.memory.segments.items ≡ map (load_shape bias) (loads_of bytes.now) }
     ensures { IfOk result (λ i. Shows bytes.now (shown program) i) }
 {
-    let ends = text_ends(alloc, bytes)?;
+    let texts = find_texts(alloc, bytes)?;
     let copy = Vec::from_slice(alloc, bytes)?;
     let buffer = Arc::new(alloc, copy)?;
-    let symbols = symbols(alloc, bytes, &buffer, ends.as_slice(), bias, sections)?;
+    let symbols = symbols(alloc, bytes, &buffer, &texts, bias, sections)?;
     let externs = externs(
         alloc,
         bytes,
         &buffer,
-        ends.as_slice(),
+        &texts,
         sections,
         program.externs.as_slice(),
     )?;
@@ -170,7 +170,7 @@ fn image(
     Ok(Image {
         segments: Items::from_vec(segments),
         externs: Items::from_vec(externs),
-        symbols: Items::from_vec(symbols),
+        symbols,
         any_bytes,
         words: Items::from_vec(words),
         entry: word(bytes, E_ENTRY).wrapping_add(bias),

@@ -1,5 +1,5 @@
 -- The memory of an image. Flags: System V ABI, ELF, program header, "Segment flag bits".
-use Rattle.std.specs.Prelude.{ℕ, ◌-◌, Bool, false, ◌&&◌, nat_le, nat_lt, ◌==◌, if◌then◌else◌, Option, Some, None, List, length, find, slice_get, bit_and}
+use Rattle.std.specs.Prelude.{ℕ, ◌-◌, Bool, false, ◌&&◌, nat_le, nat_lt, ◌==◌, if◌then◌else◌, Option, None, List, length, find, slice_get, bit_and}
 use Rattle.std.specs.Option.{option_and_then, option_map_or}
 use Rattle.image_map.specs.declared.image.Segment.{Segment}
 use Rattle.image_map.specs.declared.spans.Span.{Span}

@@ -1,8 +1,10 @@
 -- Externs and symbols. Where externs stand is the project's own.
-use Rattle.std.specs.Prelude.{ℕ, ◌+◌, ◌*◌, ◌-◌, ◌/◌, ◌%◌, Bool, ◌&&◌, nat_le, nat_lt, ◌==◌, nat_eq, if◌then◌else◌, Option, Some, None, List, find}
+use Rattle.std.specs.Prelude.{ℕ, ◌≡◌, ◌+◌, ◌*◌, ◌-◌, ◌/◌, ◌%◌, nat_lt, ◌==◌, if◌then◌else◌, Option, Some, None, List, find}
 use Rattle.std.specs.Option.{option_map}
 use Rattle.std.specs.Str.{bytes_eq}
-use Rattle.image_map.specs.declared.image.Symbol.{Symbol}
+use Rattle.std.specs.List.Sorted.{IsNonDecreasingBy}
+use Rattle.image_map.specs.declared.symbols.Symbol.{Symbol}
+use Rattle.image_map.specs.Hashes.{hash_of}
 use Rattle.image_map.specs.declared.image.TheConstants.{EXTERN_BASE, EXTERN_STEP}
 
 -- where extern number i stands
@@ -17,3 +19,11 @@ extern_number count a =
 -- the value of the first symbol with a name
 abbrev pub value_of : List Symbol → List ℕ → Option ℕ
 value_of symbols name = option_map (λ s. s.value) (find (λ s. bytes_eq s.name name) symbols)
+
+-- two lists have the same value for each name
+abbrev pub HaveSameValues : List Symbol → List Symbol → Type 0
+HaveSameValues xs ys = (n : List ℕ) → value_of xs n ≡ value_of ys n
+
+-- the hashes of the names don't fall
+abbrev pub AreSorted : List Symbol → Type 0
+AreSorted symbols = IsNonDecreasingBy (λ (s : Symbol). hash_of s.name) symbols

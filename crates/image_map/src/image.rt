@@ -1,11 +1,13 @@
 ghost use Rattle.std.specs.Prelude.{◌≡◌, ◌≤◌, length};
 ghost use Rattle.std.specs.Option.{option_copied};
-ghost use Rattle.image_map.specs.Memory.{holds, has_flag, segment_at, byte_of, is_in};
+ghost use Rattle.image_map.specs.Memory.{holds, has_flag, segment_at, byte_of};
+ghost use Rattle.image_map.specs.Queries.{byte_at as byte_there, is_code as code_there, is_writable as writable_there};
 ghost use Rattle.image_map.specs.Names.{extern_number, value_of};
 
 use crate::items::Items;
 use crate::name::Name;
 use crate::spans::Spans;
+use crate::symbols::Symbols;
 
 /// The flag of a segment whose bytes are code (System V ABI, ELF: `PF_X`).
 pub const PF_X: u32 = 1;
@@ -36,13 +38,6 @@ pub struct Extern {
     pub name: Name,
 }
 
-/// A name of the image and its value.
-#[derive(Drop)]
-pub struct Symbol {
-    pub name: Name,
-    pub value: u32,
-}
-
 /// An executable as it stands in memory before its first instruction.
 ///
 /// Extern number i stands at `EXTERN_BASE + EXTERN_STEP * i`. The bytes in `any_bytes` may have any
@@ -51,7 +46,7 @@ pub struct Symbol {
 pub struct Image {
     pub segments: Items<Segment>,
     pub externs: Items<Extern>,
-    pub symbols: Items<Symbol>,
+    pub symbols: Symbols,
     pub any_bytes: Spans,
     pub words: Items<u32>,
     pub entry: u32,
@@ -78,7 +73,7 @@ pub fn segment_holding(segments: &[Segment], address: u32) -> Option<&Segment>
 pub fn memory_byte(segments: &[Segment], any_bytes: &Spans, address: u32) -> Option<u8>
     ensures { result ≡ byte_of segments.now any_bytes.now address }
 {
-    if any_bytes.contains(address) {
+    if any_bytes.contains(address as u64) {
         return None;
     }
     let segment = segment_holding(segments, address)?;
@@ -91,14 +86,14 @@ pub fn memory_byte(segments: &[Segment], any_bytes: &Spans, address: u32) -> Opt
 impl Image {
     /// The byte at an address, or `None` where no segment has it or it may be any byte.
     pub fn byte_at(&self, address: u32) -> Option<u8>
-        ensures { result ≡ byte_of self.now.segments self.now.any_bytes address }
+        ensures { result ≡ byte_there self.now address }
     {
         memory_byte(self.segments.as_slice(), &self.any_bytes, address)
     }
 
     /// Whether an address lies in a segment whose bytes are code.
     pub fn is_code(&self, address: u32) -> bool
-        ensures { result ≡ is_in self.now.segments PF_X address }
+        ensures { result ≡ code_there self.now address }
     {
         match segment_holding(self.segments.as_slice(), address) {
             Some(segment) => segment.flags & PF_X == PF_X,
@@ -108,7 +103,7 @@ impl Image {
 
     /// Whether an address lies in a segment that may be written.
     pub fn is_writable(&self, address: u32) -> bool
-        ensures { result ≡ is_in self.now.segments PF_W address }
+        ensures { result ≡ writable_there self.now address }
     {
         match segment_holding(self.segments.as_slice(), address) {
             Some(segment) => segment.flags & PF_W == PF_W,
@@ -140,11 +135,6 @@ impl Image {
     pub fn symbol(&self, name: &[u8]) -> Option<u32>
         ensures { result ≡ value_of self.now.symbols name.now }
     {
-        let found = self
-            .symbols
-            .as_slice()
-            .iter()
-            .find(|s| s.name.as_slice() == name)?;
-        Some(found.value)
+        self.symbols.value(name)
     }
 }

@@ -2,19 +2,23 @@
 //! that all later crates give to regions of memory.
 #![tactic(auto)]
 
+mod hash;
 mod image;
 mod items;
 mod name;
 mod region;
 mod spans;
+mod symbols;
 #[cfg(test)]
 mod tests;
 
+pub use hash::{EMPTY_HASH, hash_before, hash_of};
 pub use image::{
-    EXTERN_BASE, EXTERN_STEP, Extern, Image, PF_R, PF_W, PF_X, Segment, Symbol, memory_byte,
+    EXTERN_BASE, EXTERN_STEP, Extern, Image, PF_R, PF_W, PF_X, Segment, memory_byte,
     segment_holding,
 };
 pub use items::Items;
 pub use name::Name;
 pub use region::{Activation, Block, Cell, Kind, RegionId, Settings};
 pub use spans::{Span, Spans};
+pub use symbols::{Symbol, Symbols};

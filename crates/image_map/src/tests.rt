@@ -1,6 +1,6 @@
 use crate::{
-    EXTERN_BASE, Extern, Image, Items, Name, PF_R, PF_W, PF_X, RegionId, Segment, Span, Spans,
-    Symbol,
+    EMPTY_HASH, EXTERN_BASE, Extern, Image, Items, Name, PF_R, PF_W, PF_X, RegionId, Segment, Span,
+    Spans, Symbol, Symbols, hash_before, hash_of,
 };
 use std::alloc::{AllocError, Global};
 
@@ -16,13 +16,13 @@ fn segment(alloc: Global, start: u32, bytes: &[u8], flags: u32) -> Result<Segmen
     })
 }
 
-fn symbols(alloc: Global) -> Result<Items<Symbol>, AllocError> {
-    let mut symbols = Items::new(alloc);
+fn symbols(alloc: Global) -> Result<Symbols, AllocError> {
+    let mut symbols = Vec::new(alloc);
     for (text, value) in [(b"main", 1), (b"init", 2), (b"main", 3)] {
         let name = name(alloc, text)?;
         symbols.push(Symbol { name, value })?;
     }
-    Ok(symbols)
+    Symbols::from_vec(symbols)
 }
 
 /// Two segments that adjoin, one of code and one that may be written, with two bytes of any content.
@@ -95,8 +95,8 @@ fn names_share_a_buffer(rt: HostRuntime) {
     let alloc = rt.alloc();
     let text = Vec::from_slice(alloc, b"printf").expect(&rt, "memory");
     let buffer = std::sync::Arc::new(alloc, text).expect(&rt, "memory");
-    let tail = Name::within(&buffer, 5, 6).expect(&rt, "memory");
-    let whole = Name::within(&buffer, 0, 6).expect(&rt, "memory");
+    let tail = Name::within(&buffer, 5, 6, hash_before(b'f', EMPTY_HASH)).expect(&rt, "memory");
+    let whole = Name::within(&buffer, 0, 6, hash_of(b"printf")).expect(&rt, "memory");
     assert_eq!(rt; tail.as_slice(), b"f".as_slice());
     assert_eq!(rt; whole.as_slice(), b"printf".as_slice());
 }

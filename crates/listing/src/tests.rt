@@ -1,6 +1,6 @@
 // Lists of small images.
 use super::*;
-use image_map::{Image, Items, PF_R, PF_W, PF_X, Segment, Spans};
+use image_map::{Image, Items, PF_R, PF_W, PF_X, Segment, Spans, Symbols};
 use std::alloc::{AllocError, Global};
 use std::test::Fail;
 
@@ -27,7 +27,7 @@ fn image(alloc: Global, parts: &[Part<'_>], any: Option<u32>) -> Result<Image, A
     Ok(Image {
         segments,
         externs: Items::new(alloc),
-        symbols: Items::new(alloc),
+        symbols: Symbols::new(alloc),
         any_bytes,
         words: Items::new(alloc),
         entry: 0x1000,

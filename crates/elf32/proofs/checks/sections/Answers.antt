@@ -1,4 +1,4 @@
-use Rattle.std.proofs.Common.{◌≡◌, ◌++◌, ◌∷◌, [], ap, ◌∙◌}
+use Rattle.std.proofs.Common.{◌++◌, ◌∷◌, [], ap, ◌∙◌}
 use Rattle.elf32.specs.Fields.{section_header}
 use Rattle.elf32.proofs.Rows.{row_pushed}
 use Rattle.elf32.proofs.checks.sections.Goals as goal

@@ -1,5 +1,4 @@
-use Rattle.std.proofs.Common.{◌≤◌, get_or, arith}
-use Rattle.elf32.specs.Checks.{end_of}
+use Rattle.std.proofs.Common.{arith}
 use Rattle.elf32.proofs.Sound.{low_at}
 use Rattle.elf32.proofs.load.segments.Goals as goal
 

@@ -1,7 +1,6 @@
-use Rattle.std.proofs.Common.{◌≡◌, Option, Some, None, inr, sym, refl, ◌∙◌, length, true, false}
+use Rattle.std.proofs.Common.{inr, sym, refl, ◌∙◌, length, true, false}
 use Rattle.std.proofs.lemmas.Result.{err_from_is_err_and}
 use Rattle.elf32.specs.declared.error.ElfError.TheVariants as errors
-use Rattle.elf32.specs.Checks.{wrong_segments, short_sections}
 use Rattle.elf32.specs.Programs.{shown}
 use Rattle.elf32.proofs.Failing.{the_segments, segments_fail, the_sections, sections_fail, the_outcome, relocations_fail, none_fails}
 use Rattle.elf32.proofs.Folding.{cause}

@@ -1,4 +1,4 @@
-use Rattle.std.proofs.Common.{◌≡◌, sym}
+use Rattle.std.proofs.Common.{sym}
 use Rattle.elf32.specs.Relocating.{place_of}
 use Rattle.elf32.proofs.Targets.{target_whole, target_inside, target_low}
 use Rattle.elf32.proofs.relocate.relocate.Goals as goal

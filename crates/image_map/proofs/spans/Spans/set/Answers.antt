@@ -1,10 +1,11 @@
-use Rattle.std.proofs.Common.{◌≡◌}
-use Rattle.image_map.specs.Ranges.{IsRising, is_any}
 use Rattle.image_map.proofs.Rising.{is_any-replaced, rising-replaced}
 use Rattle.image_map.proofs.spans.Spans.set.Goals as goal
 
 pub invariant_of-self : goal.invariant_of-self
-invariant_of-self c = rw c.in_ok-spans.ensures (rw c.as_slice.ensures.value (rising-replaced _ _ _ _ c.requires c.self.invariant))
+invariant_of-self c = rw c.in_err-replace.ensures.err c.self.invariant
+
+pub invariant_of-self-2 : goal.invariant_of-self-2
+invariant_of-self-2 c = rw c.in_ok-replace.ensures.ok (rising-replaced _ _ _ _ c.requires c.self.invariant)
 
 pub returns-clause-ok : goal.returns-clause-ok
-returns-clause-ok c = λ a. rw (c.in_ok-spans.ensures, c.as_slice.ensures.value, ← c.self.view_is) (is_any-replaced _ _ _ _ a c.requires)
+returns-clause-ok c = λ a. rw (c.in_ok-replace.ensures.ok, ← c.self.view_is) (is_any-replaced _ _ _ _ a c.requires)

@@ -1,0 +1,5 @@
+use Rattle.image_map.proofs.Cut.{behind_none}
+use Rattle.image_map.proofs.spans.behind.Goals as goal
+
+pub returns-else-at-spans-clause-rest : goal.returns-else-at-spans-clause-rest
+returns-else-at-spans-clause-rest c = behind_none c.args.at c.args.spans.now c.if-at-spans.false
