@@ -2,9 +2,14 @@ pub mod Places
 pub mod StraightGraph
 pub mod Backward
 pub mod Straight
+pub mod StraightStops
+pub mod OneBegins
+pub mod FetchLaws
+pub mod ListingLaws
+pub mod FileImage
 pub mod WordLaws
-pub mod PlainLaws
 pub mod TextLaws
+pub mod RefusalLaws
 pub mod RequestLaws
 pub mod RunArrows
 pub mod RunLaws

@@ -13,7 +13,7 @@ use Rattle.ia32_types.specs.declared.Operand.TheVariants as operand
 use Rattle.ia32_types.specs.declared.Op.TheVariants as op
 use Rattle.ia32_types.specs.declared.Instr.{Instr}
 use Rattle.ia32_types.specs.Places.{op_reads, op_writes, op_flag_writes, target_of, value_of, arithmetic_flags, registers_read, registers_written, flags_written}
-use Rattle.surf_prog.specs.ImageMapImage.{Image}
+use Rattle.image_map.specs.declared.image.Image.{Image}
 use Rattle.surf_prog.specs.ImageMapState.{Flags, Bytes, State, esp, put, bytes_at, word_at, joined, little_endian}
 use Rattle.surf_prog.specs.Ia32Machine.{Settings, Act, Executes, register_number, read_operand, wrapped_sum, sum_flags, Step, is_forgotten}
 use Rattle.surf_prog.specs.Ia32Run.{Forgets, is_register_of, is_flag_of, byte_reads, Place, InRegister, InFlag, AtByte, is_place, act_reads, act_writes}

@@ -1,51 +1,108 @@
 -- Laws of one request: from how it ends to its clauses.
-use Rattle.std.proofs.Common.{◌≡◌, ◌≢◌, ◌⊎◌, inl, inr, ℕ, zero, suc, ◌<◌, ◌≤◌, Bool, true, false, ◌||◌, List, [], ◌∷◌, ◌++◌, length, Option, Some, None, Result, Ok, Err, refl, sym, ◌∙◌, ap, subst, arith, length-append, append_assoc, eqb-true, eq-eqb}
-use Rattle.std.specs.Prelude.{◌==◌, ◌↔◌}
+use Rattle.std.proofs.Common.{◌≡◌, ◌≢◌, ◌⊎◌, inl, inr, ⊎_elim, ℕ, zero, suc, ◌<◌, ◌≤◌, Bool, true, false, ◌||◌, List, [], ◌∷◌, length, Option, Some, None, Result, Ok, Err, refl, sym, ◌∙◌, ap, subst, arith, eqb-true, eq-eqb}
+use Rattle.std.specs.Prelude.{◌==◌, ◌↔◌, Vec}
+use Rattle.std.specs.declared.alloc.Global.{Global}
 use Rattle.std.specs.Option.{IfSome}
-use Rattle.std.specs.Result.{OnOk, OnErr}
 use Rattle.std.specs.List.{list_any, slice_get}
 use Rattle.std.proofs.lemmas.Bool.{false≢true}
-use Rattle.std.proofs.lemmas.List.{append_cancel_left}
 use Rattle.ia32_types.specs.declared.Instr.{Instr}
+use Rattle.image_map.specs.declared.image.Image.{Image}
+use Rattle.image_map.specs.Queries.{is_code}
+use Rattle.elf32.specs.declared.error.ElfError.{ElfError}
+use Rattle.elf32.specs.Loading.{Loads}
 use Rattle.surf_base.specs.Faults.{Rose}
 use Rattle.surf_base.specs.Shelf.{IsLonger, Gives}
-use Rattle.surf_base.specs.Sink.{Appends, AppendsPart}
-use Rattle.surf_prog.specs.declared.request.Refusal.{Refusal}
-use Rattle.surf_prog.specs.declared.request.Refusal.TheVariants as refusal
-use Rattle.surf_prog.specs.PlainFile.{plain_start, plain_end, plain_entry, IsPlain}
+use Rattle.surf_base.specs.Sink.{Appends}
+use Rattle.surf_prog.specs.declared.words.Task.{Task}
+use Rattle.surf_prog.specs.declared.words.Task.TheVariants as task
+use Rattle.surf_prog.specs.declared.request.NoReply.{NoReply}
+use Rattle.surf_prog.specs.declared.request.NoReply.TheVariants as none
+use Rattle.surf_prog.specs.declared.refusal.Refusal.{Refusal}
+use Rattle.surf_prog.specs.declared.refusal.Refusal.TheVariants as refusal
 use Rattle.surf_prog.specs.StraightCode.{IsStraight}
-use Rattle.surf_prog.specs.Once.{image_limit, HasCode, HasNode, IsReply, IsUnsupported, IsAbsent, HasReply, TellsLine, WasRead, ForAsked, AsksNothing, WritesReply, WritesPart, IsStatus, WritesNothing, ErrorLines, shelf_line, too_long_line}
-use Rattle.surf_prog.specs.Answer.{Asked, OfFile, Answers, line_of, status_of}
-use Rattle.surf_prog.proofs.PlainLaws.{remains}
+use Rattle.surf_prog.specs.Code.{code_of}
+use Rattle.surf_prog.specs.Listing.{IsTheListing}
+use Rattle.surf_prog.specs.Once.{image_limit, Enters, HasCode, HasNode, HasList, first_place, IsListReply, IsReply, HasReply, HasNoImage, HasNoEntry, IsUnsupported, IsAbsent, TellsLine, WasRead, ForAsked, AsksNothing, WritesReply, WritesPart, IsStatus, WritesNothing, ErrorLines, shelf_line, too_long_line}
+use Rattle.surf_prog.specs.Words.{Asks}
+use Rattle.surf_prog.specs.Answer.{Asked, OfFile, Replies, Answers, refusal_of, line_of, status_of}
 use Rattle.surf_prog.proofs.Straight.{one_list}
 use Rattle.surf_prog.proofs.StraightGraph.{has_from, from_has}
+use Rattle.surf_prog.proofs.StraightStops.{straight_or_stops}
+use Rattle.surf_prog.proofs.FileImage.{same_entry, same_code, same_code_of}
 use Rattle.surf_prog.proofs.WordLaws.{one_request}
 
--- the code of a plain file is one, and no longer than the file
-pub one_plain : (file a b : List ℕ) → IsPlain file a → IsPlain file b → a ≡ b
-one_plain file a b p q =
-    let rest = p.file_size ++ (p.memory_size ++ (plain_end ++ a)) in
-    append_cancel_left plain_end a b (sym (remains file rest a p.parts p).end ∙ (remains file rest b p.parts q).end)
+-- -- What a file answers: one thing at most
 
-pub plain_short : (file code : List ℕ) → IsPlain file code → length code ≤ length file
-plain_short file code p =
-    let first = length-append plain_start (p.file_size ++ (p.memory_size ++ (plain_end ++ code))) in
-    let second = length-append p.file_size (p.memory_size ++ (plain_end ++ code)) in
-    let third = length-append p.memory_size (plain_end ++ code) in
-    let fourth = length-append plain_end code in
-    let whole = ap (λ (l : List ℕ). length l) p.parts in
-    omega arith
+-- the code of a file at its entry, by whatever image
+moved_straight : (file : List ℕ) (i j : Image) (instrs : List Instr) → Loads file i → Loads file j → IsStraight i.entry (code_of i i.entry) instrs → IsStraight j.entry (code_of j j.entry) instrs
+moved_straight file i j instrs p q straight =
+    let code = subst (λ c. IsStraight i.entry c instrs) (same_code_of file i j p q) straight in
+    subst (λ e. IsStraight e (code_of j j.entry) instrs) (same_entry file i j p q) code
 
 one_code : (file : List ℕ) (is js : List Instr) → HasCode file is → HasCode file js → is ≡ js
 one_code file is js p q =
-    let code = one_plain file p.code q.code p.plain q.plain in
-    one_list is js plain_entry q.code (subst (λ (c : List ℕ). IsStraight plain_entry c is) code p.straight).lists q.straight.lists
+    let straight = moved_straight file p.image q.image is p.entered.loads q.entered.loads p.straight in
+    one_list is js q.image.entry (code_of q.image q.image.entry) straight.lists q.straight.lists
 
-pub not_plain : (file : List ℕ) → ((code : List ℕ) → ¬ IsPlain file code) → IsUnsupported file
-not_plain file none = λ instrs has. none has.code has.plain
+-- an image, where there is one, is no missing one
+loads_passes : (file : List ℕ) (image : Image) (cause : ElfError) → Loads file image → ¬ HasNoImage file cause
+loads_passes file image cause loads none = let no : ◌≡◌ {A = Option ElfError} None (Some cause) = sym loads.passes ∙ none in absurd (cc)
 
-pub not_straight : (file code : List ℕ) → IsPlain file code → ((is : List Instr) → ¬ IsStraight plain_entry code is) → IsUnsupported file
-not_straight file code plain none = λ instrs has. none instrs (subst (λ (c : List ℕ). IsStraight plain_entry c instrs) (one_plain file has.code code has.plain plain) has.straight)
+-- it is entered in code by each image, or by none
+enters_once : (file : List ℕ) (image : Image) → Enters file image → ¬ HasNoEntry file
+enters_once file image entered none =
+    let code : is_code image image.entry ≡ is_code none.0 none.0.entry = same_code file image none.0 entered.loads none.1 image.entry ∙ ap (is_code none.0) (same_entry file image none.0 entered.loads none.1) in
+    false≢true (sym none.2 ∙ sym code ∙ entered.enters)
+
+-- what has a reply, is absent or isn't supported has an image that is entered in code
+pub record Entered (file : List ℕ) : Type 0 where
+  pub image : Image
+  pub entered : Enters file image
+
+reply_enters : (file : List ℕ) (asked : Task) → HasReply file asked → Entered file
+reply_enters file (task.Slice at) has = record { image = has.1.image; entered = has.1.entered }
+reply_enters file (task.List from steps) has = record { image = has.image; entered = has.entered }
+
+absent_enters : (file : List ℕ) (asked : Task) (at : ℕ) → IsAbsent file asked at → Entered file
+absent_enters file (task.Slice place) at absent = record { image = absent.1.1.image; entered = absent.1.1.entered }
+absent_enters file (task.List from steps) at absent = record { image = absent.1.0; entered = absent.1.1 }
+
+unsupported_enters : (file : List ℕ) (asked : Task) (at : ℕ) → IsUnsupported file asked at → Entered file
+unsupported_enters file (task.Slice place) at unsupported = record { image = unsupported.0; entered = unsupported.1 }
+unsupported_enters file (task.List from steps) at unsupported = absurd unsupported
+
+code_supported : (file : List ℕ) (instrs : List Instr) (place at : ℕ) → HasCode file instrs → ¬ IsUnsupported file (task.Slice place) at
+code_supported file instrs place at has unsupported =
+    straight_or_stops unsupported.0.entry (code_of unsupported.0 unsupported.0.entry) instrs at
+    (moved_straight file has.image unsupported.0 instrs has.entered.loads unsupported.1.loads has.straight) unsupported.2
+
+absent_supported : (file : List ℕ) (asked : Task) (place at : ℕ) → IsAbsent file asked place → ¬ IsUnsupported file asked at
+absent_supported file (task.Slice criterion) place at absent = code_supported file absent.1.0 criterion at absent.1.1
+absent_supported file (task.List from steps) place at absent = λ unsupported. absurd unsupported
+
+reply_supported : (file : List ℕ) (asked : Task) (at : ℕ) → HasReply file asked → ¬ IsUnsupported file asked at
+reply_supported file (task.Slice criterion) at has = code_supported file has.0 criterion at has.1
+reply_supported file (task.List from steps) at has = λ unsupported. absurd unsupported
+
+list_present : (file : List ℕ) (from : Option ℕ) (place : ℕ) → HasList file from → from ≡ Some place → (image : Image) → Enters file image → is_code image place ≡ false → ⊥
+list_present file None place has is image entered none = absurd (cc)
+list_present file (Some at) place has is image entered none =
+    let same : at ≡ place = cc in
+    let code : is_code has.image at ≡ is_code image place = same_code file has.image image has.entered.loads entered.loads at ∙ ap (is_code image) same in
+    false≢true (sym none ∙ sym code ∙ has.begins)
+
+reply_present : (file : List ℕ) (asked : Task) (place : ℕ) → HasReply file asked → ¬ IsAbsent file asked place
+reply_present file (task.Slice at) place has absent = absent.1.2 (subst (λ is. HasNode is at) (one_code file has.0 absent.1.0 has.1 absent.1.1) has.2)
+reply_present file (task.List from steps) place has absent = list_present file from place has absent.0 absent.1.0 absent.1.1 absent.1.2
+
+has_reply : (file : List ℕ) (asked : Task) (text : List ℕ) → IsReply file asked text → HasReply file asked
+has_reply file (task.Slice at) text reply = (reply.instrs, reply.code, reply.criterion)
+has_reply file (task.List from steps) text reply = reply.there
+
+-- where the first place of a list isn't code, that place was named
+pub list_absent : (file : List ℕ) (image : Image) (from : Option ℕ) (steps place : ℕ) → Enters file image → place ≡ first_place image from → is_code image place ≡ false → IsAbsent file (task.List from steps) place
+list_absent file image None steps place entered is none = absurd (false≢true (sym none ∙ ap (is_code image) is ∙ entered.enters))
+list_absent file image (Some at) steps place entered is none = (ap Some (sym is), (image, entered, none))
 
 -- an instruction stands at the address exactly where a node does
 record StandsAt (at : ℕ) (xs : List Instr) : Type 0 where
@@ -80,49 +137,70 @@ node_stands at instrs any = let found = any_at at instrs any in (found.n, has_fr
 pub no_node_stands : (at : ℕ) (instrs : List Instr) → list_any (λ (i : Instr). i.at == at) instrs ≡ false → ¬ HasNode instrs at
 no_node_stands at instrs none node = let found = from_has instrs node.0 (λ node. node.at ≡ at) node.1 in none_at at instrs none node.0 found.instr found.here found.fact
 
--- pieces written one after another
-pub part_longer : (old new : Option (List ℕ)) (front rest : List ℕ) → AppendsPart old new front → AppendsPart old new (front ++ rest)
-part_longer old new front rest p = record { part = p.part; rest = p.rest ++ rest; piece_is = ap (λ (l : List ℕ). l ++ rest) p.piece_is ∙ append_assoc p.part p.rest rest; appended = p.appended }
-
-appends_then : (old mid new : Option (List ℕ)) (front back : List ℕ) → Appends old mid front → Appends mid new back → Appends old new (front ++ back)
-appends_then None mid new front back p q = tt
-appends_then (Some text) mid new front back p q =
-    let later : Appends (Some (text ++ front)) new back = subst (λ (o : Option (List ℕ)). Appends o new back) p q in
-    later ∙ ap (λ (l : List ℕ). Some l) (append_assoc text front back)
-
-pub part_then : (old mid new : Option (List ℕ)) (front back : List ℕ) → Appends old mid front → AppendsPart mid new back → AppendsPart old new (front ++ back)
-part_then old mid new front back p q = record {
-  part = front ++ q.part;
-  rest = q.rest;
-  piece_is = ap (λ (l : List ℕ). front ++ l) q.piece_is ∙ sym (append_assoc front q.part q.rest);
-  appended = appends_then old mid new front q.part p q.appended;
-}
-
-pub on_err : {T E : Type 0} (r : Result T E) (P : Type 0) → P → OnErr r P
-on_err (Ok x) P p = tt
-on_err (Err e) P p = p
-
-pub on_err_then : {T E : Type 0} (r : Result T E) (P Q : Type 0) → (P → Q) → OnErr r P → OnErr r Q
-on_err_then (Ok x) P Q f p = tt
-on_err_then (Err e) P Q f p = f p
-
-pub tells : {E : Type 0} (r : Result (Unit {0}) E) (old new : Option (List ℕ)) (before now : ℕ) (line : List ℕ) → OnOk r (Appends old new line) → OnErr r (AppendsPart old new line) → OnErr r (Rose before now) → TellsLine old new before now line
-tells (Ok u) old new before now line whole part rose = inl whole
-tells (Err e) old new before now line whole part rose = inr (part, rose)
-
 -- what holds of the bytes that were read holds of the file, where it is told
 pub of_file : (o : Option (List ℕ)) (bytes : List ℕ) (P : List ℕ → Type 0) → Gives o bytes → length bytes ≤ image_limit → P bytes → OfFile o P
 of_file None bytes P gives short p = tt
 of_file (Some file) bytes P gives short p = (subst (λ (l : List ℕ). length l ≤ image_limit) gives short, subst P gives p)
 
-pub asked_fact : (words : List (List ℕ)) (P : List ℕ → ℕ → Type 0) → Asked words P → ForAsked words P
-asked_fact words P a name at asks =
-    let same = one_request words a.name name a.at at a.asks asks in
-    subst (λ n. P n at) same.0 (subst (λ b. P a.name b) same.1 a.fact)
+pub asked_fact : (words : List (List ℕ)) (P : List ℕ → Task → Type 0) → Asked words P → ForAsked words P
+asked_fact words P a name asked asks =
+    let same = one_request words a.name name a.asked asked a.asks asks in
+    subst (λ n. P n asked) same.0 (subst (λ b. P a.name b) same.1 a.fact)
 
 if_told : (o : Option (List ℕ)) (P Q : List ℕ → Type 0) → ((file : List ℕ) → P file → Q file) → IfSome o P → IfSome o Q
 if_told None P Q f p = tt
 if_told (Some file) P Q f p = f file p
+
+-- what a file answers that was read, and with what status
+abbrev Facts : ℕ → List ℕ → Task → Type 0
+Facts status file asked =
+    (length file ≤ image_limit)
+    × ((status ≡ 4) ↔ ((cause : ElfError) × HasNoImage file cause))
+    × ((status ≡ 5) ↔ (HasNoEntry file ⊎ ((at : ℕ) × IsAbsent file asked at)))
+    × ((status ≡ 9) ↔ ((at : ℕ) × IsUnsupported file asked at))
+
+replied : (status : ℕ) (file : List ℕ) (asked : Task) → status ≢ 4 → status ≢ 5 → status ≢ 9 → length file ≤ image_limit → HasReply file asked → Facts status file asked
+replied status file asked not_four not_five not_nine short has =
+    let there = reply_enters file asked has in (
+      short,
+      ((λ four. absurd (not_four four)), (λ none. absurd (loads_passes file there.image none.0 there.entered.loads none.1))),
+      ((λ five. absurd (not_five five)), (λ absent. absurd (⊎_elim (λ none. enters_once file there.image there.entered none) (λ place. reply_present file asked place.0 has place.1) absent))),
+      ((λ nine. absurd (not_nine nine)), (λ unsupported. absurd (reply_supported file asked unsupported.0 has unsupported.1))),
+    )
+
+no_image : (status : ℕ) (file : List ℕ) (asked : Task) (cause : ElfError) → status ≡ 4 → length file ≤ image_limit → HasNoImage file cause → Facts status file asked
+no_image status file asked cause is short none = (
+  short,
+  ((λ four. (cause, none)), (λ found. is)),
+  ((λ five. absurd (omega arith)), (λ absent. absurd (⊎_elim (λ entry. loads_passes file entry.0 cause entry.1 none) (λ place. let there = absent_enters file asked place.0 place.1 in loads_passes file there.image cause there.entered.loads none) absent))),
+  ((λ nine. absurd (omega arith)), (λ unsupported. absurd (let there = unsupported_enters file asked unsupported.0 unsupported.1 in loads_passes file there.image cause there.entered.loads none))),
+)
+
+no_entry : (status : ℕ) (file : List ℕ) (asked : Task) → status ≡ 5 → length file ≤ image_limit → HasNoEntry file → Facts status file asked
+no_entry status file asked is short none = (
+  short,
+  ((λ four. absurd (omega arith)), (λ found. absurd (loads_passes file none.0 found.0 none.1 found.1))),
+  ((λ five. inl none), (λ absent. is)),
+  ((λ nine. absurd (omega arith)), (λ unsupported. absurd (let there = unsupported_enters file asked unsupported.0 unsupported.1 in enters_once file there.image there.entered none))),
+)
+
+absent_place : (status : ℕ) (file : List ℕ) (asked : Task) (at : ℕ) → status ≡ 5 → length file ≤ image_limit → IsAbsent file asked at → Facts status file asked
+absent_place status file asked at is short absent =
+    let there = absent_enters file asked at absent in (
+      short,
+      ((λ four. absurd (omega arith)), (λ found. absurd (loads_passes file there.image found.0 there.entered.loads found.1))),
+      ((λ five. inr (at, absent)), (λ found. is)),
+      ((λ nine. absurd (omega arith)), (λ unsupported. absurd (absent_supported file asked at unsupported.0 absent unsupported.1))),
+    )
+
+unsupported_place : (status : ℕ) (file : List ℕ) (asked : Task) (at : ℕ) → status ≡ 9 → length file ≤ image_limit → IsUnsupported file asked at → Facts status file asked
+unsupported_place status file asked at is short unsupported =
+    let there = unsupported_enters file asked at unsupported in (
+      short,
+      ((λ four. absurd (omega arith)), (λ found. absurd (loads_passes file there.image found.0 there.entered.loads found.1))),
+      ((λ five. absurd (omega arith)), (λ absent. absurd (⊎_elim (λ none. enters_once file there.image there.entered none) (λ place. absent_supported file asked place.0 at place.1 unsupported) absent))),
+      ((λ nine. (at, unsupported)), (λ found. is)),
+    )
 
 module _ (words : List (List ℕ)) (files : List ℕ → Option (List ℕ)) (before now : List ℕ → ℕ) (old new : Option (List ℕ)) (faults faults_now : ℕ) where
   abbrev Ended : Result (Unit {0}) Refusal → Type 0
@@ -137,116 +215,128 @@ module _ (words : List (List ℕ)) (files : List ℕ → Option (List ℕ)) (bef
   statuses_hold (Err refusal.Words) status is = inr (inl is)
   statuses_hold (Err (refusal.Shelf told)) status is = inr (inr (inl is))
   statuses_hold (Err (refusal.TooLong told)) status is = inr (inr (inl is))
-  statuses_hold (Err refusal.Unsupported) status is = inr (inr (inr (inr (inr (inr is)))))
-  statuses_hold (Err (refusal.Absent told)) status is = inr (inr (inr (inl is)))
-  statuses_hold (Err refusal.Output) status is = inr (inr (inr (inr (inl is))))
-  statuses_hold (Err refusal.Memory) status is = inr (inr (inr (inr (inr (inl is)))))
+  statuses_hold (Err (refusal.Image cause)) status is = inr (inr (inr (inl is)))
+  statuses_hold (Err refusal.Entry) status is = inr (inr (inr (inr (inl is))))
+  statuses_hold (Err (refusal.Unsupported at)) status is = inr (inr (inr (inr (inr (inr (inr (is)))))))
+  statuses_hold (Err (refusal.Absent at)) status is = inr (inr (inr (inr (inl is))))
+  statuses_hold (Err refusal.Output) status is = inr (inr (inr (inr (inr (inl is)))))
+  statuses_hold (Err refusal.Memory) status is = inr (inr (inr (inr (inr (inr (inl is))))))
 
   pub not_zero : (e : Refusal) → status_of e ≢ 0
   not_zero refusal.Words = omega arith
   not_zero (refusal.Shelf told) = omega arith
   not_zero (refusal.TooLong told) = omega arith
-  not_zero refusal.Unsupported = omega arith
-  not_zero (refusal.Absent told) = omega arith
+  not_zero (refusal.Image cause) = omega arith
+  not_zero refusal.Entry = omega arith
+  not_zero (refusal.Unsupported at) = omega arith
+  not_zero (refusal.Absent at) = omega arith
   not_zero refusal.Output = omega arith
   not_zero refusal.Memory = omega arith
 
   pub text_holds : (r : Result (Unit {0}) Refusal) (status : ℕ) → status ≡ status_in r → Ended r → status ≡ 0 → WritesReply words files old new
-  text_holds (Ok u) status is a zero_is = λ name at asks.
-      let fact = asked_fact words (λ name at. (text : List ℕ) × OfFile (files name) (λ file. IsReply file at text) × Appends old new text) a name at asks in
+  text_holds (Ok u) status is a zero_is = λ name asked asks.
+      let fact = asked_fact words (λ name asked. (text : List ℕ) × OfFile (files name) (λ file. IsReply file asked text) × Appends old new text) a name asked asks in
       if_told (files name) _ _ (λ file both. (fact.0, both.1, fact.2)) fact.1
   text_holds (Err e) status is a zero_is = absurd (not_zero e (sym is ∙ zero_is))
 
   pub bad_words_hold : (r : Result (Unit {0}) Refusal) (status : ℕ) → status ≡ status_in r → Ended r → (status ≡ 2) ↔ AsksNothing words
-  bad_words_hold (Ok u) status is a = (λ two. absurd (omega arith), λ none. absurd (none a.name a.at a.asks))
+  bad_words_hold (Ok u) status is a = (λ two. absurd (omega arith), λ none. absurd (none a.name a.asked a.asks))
   bad_words_hold (Err refusal.Words) status is a = (λ two. a.0, λ none. is)
-  bad_words_hold (Err (refusal.Shelf told)) status is a = (λ two. absurd (omega arith), λ none. absurd (none a.0.name a.0.at a.0.asks))
-  bad_words_hold (Err (refusal.TooLong told)) status is a = (λ two. absurd (omega arith), λ none. absurd (none a.0.name a.0.at a.0.asks))
-  bad_words_hold (Err refusal.Unsupported) status is a = (λ two. absurd (omega arith), λ none. absurd (none a.0.name a.0.at a.0.asks))
-  bad_words_hold (Err (refusal.Absent told)) status is a = (λ two. absurd (omega arith), λ none. absurd (none a.0.name a.0.at a.0.asks))
-  bad_words_hold (Err refusal.Output) status is a = (λ two. absurd (omega arith), λ none. absurd (none a.0.name a.0.at a.0.asks))
-  bad_words_hold (Err refusal.Memory) status is a = (λ two. absurd (omega arith), λ none. absurd (none a.0.name a.0.at a.0.asks))
+  bad_words_hold (Err (refusal.Shelf told)) status is a = (λ two. absurd (omega arith), λ none. absurd (none a.0.name a.0.asked a.0.asks))
+  bad_words_hold (Err (refusal.TooLong told)) status is a = (λ two. absurd (omega arith), λ none. absurd (none a.0.name a.0.asked a.0.asks))
+  bad_words_hold (Err (refusal.Image cause)) status is a = (λ two. absurd (omega arith), λ none. absurd (none a.0.name a.0.asked a.0.asks))
+  bad_words_hold (Err refusal.Entry) status is a = (λ two. absurd (omega arith), λ none. absurd (none a.0.name a.0.asked a.0.asks))
+  bad_words_hold (Err (refusal.Unsupported at)) status is a = (λ two. absurd (omega arith), λ none. absurd (none a.0.name a.0.asked a.0.asks))
+  bad_words_hold (Err (refusal.Absent at)) status is a = (λ two. absurd (omega arith), λ none. absurd (none a.0.name a.0.asked a.0.asks))
+  bad_words_hold (Err refusal.Output) status is a = (λ two. absurd (omega arith), λ none. absurd (none a.0.name a.0.asked a.0.asks))
+  bad_words_hold (Err refusal.Memory) status is a = (λ two. absurd (omega arith), λ none. absurd (none a.0.name a.0.asked a.0.asks))
 
-  pub shelf_holds : (e : Refusal) (status : ℕ) (told : List ℕ → Type 0) → status ≡ status_of e → Ended (Err e) → told (line_of e) → status ≡ 3
-      → ForAsked words (λ name at. (Rose (before name) (now name) × told (shelf_line name)) ⊎ (IsLonger (files name) image_limit × told (too_long_line name)))
-  shelf_holds (refusal.Shelf by) status told is a line three = λ name at asks.
-      let fact = asked_fact words (λ name at. (name ≡ by.now) × Rose (before name) (now name)) a.0 name at asks in
-      inl (fact.1, subst (λ n. told (shelf_line n)) (sym fact.0) line)
-  shelf_holds (refusal.TooLong by) status told is a line three = λ name at asks.
-      let fact = asked_fact words (λ name at. (name ≡ by.now) × IsLonger (files name) image_limit) a.0 name at asks in
-      inr (fact.1, subst (λ n. told (too_long_line n)) (sym fact.0) line)
-  shelf_holds refusal.Words status told is a line three = absurd (omega arith)
-  shelf_holds refusal.Unsupported status told is a line three = absurd (omega arith)
-  shelf_holds (refusal.Absent by) status told is a line three = absurd (omega arith)
-  shelf_holds refusal.Output status told is a line three = absurd (omega arith)
-  shelf_holds refusal.Memory status told is a line three = absurd (omega arith)
+  pub shelf_holds : (e : Refusal) (status : ℕ) (tells : List ℕ → Type 0) → status ≡ status_of e → Ended (Err e) → tells (line_of e) → status ≡ 3
+      → ForAsked words (λ name asked. (Rose (before name) (now name) × tells (shelf_line name)) ⊎ (IsLonger (files name) image_limit × tells (too_long_line name)))
+  shelf_holds (refusal.Shelf told) status tells is a line three = λ name asked asks.
+      let fact = asked_fact words (λ name asked. (name ≡ told.now) × Rose (before name) (now name)) a.0 name asked asks in
+      inl (fact.1, subst (λ n. tells (shelf_line n)) (sym fact.0) line)
+  shelf_holds (refusal.TooLong told) status tells is a line three = λ name asked asks.
+      let fact = asked_fact words (λ name asked. (name ≡ told.now) × IsLonger (files name) image_limit) a.0 name asked asks in
+      inr (fact.1, subst (λ n. tells (too_long_line n)) (sym fact.0) line)
+  shelf_holds refusal.Words status tells is a line three = absurd (omega arith)
+  shelf_holds (refusal.Image cause) status tells is a line three = absurd (omega arith)
+  shelf_holds refusal.Entry status tells is a line three = absurd (omega arith)
+  shelf_holds (refusal.Unsupported at) status tells is a line three = absurd (omega arith)
+  shelf_holds (refusal.Absent at) status tells is a line three = absurd (omega arith)
+  shelf_holds refusal.Output status tells is a line three = absurd (omega arith)
+  shelf_holds refusal.Memory status tells is a line three = absurd (omega arith)
 
   -- the steps after the file is read
-  abbrev Facts : ℕ → List ℕ → ℕ → Type 0
-  Facts status file at = (length file ≤ image_limit) × ((status ≡ 9) ↔ IsUnsupported file) × ((status ≡ 5) ↔ IsAbsent file at)
-
-  replied : (status : ℕ) (file : List ℕ) (at : ℕ) (text : List ℕ) → status ≢ 9 → status ≢ 5 → (length file ≤ image_limit) × IsReply file at text → Facts status file at
-  replied status file at text not_nine not_five both =
-      let reply = both.1 in (
-        both.0,
-        ((λ nine. absurd (not_nine nine)), (λ unsupported. absurd (unsupported reply.instrs reply.code))),
-        ((λ five. absurd (not_five five)), (λ absent. absurd (absent.2 (subst (λ is. HasNode is at) (one_code file reply.instrs absent.0 reply.code absent.1) reply.criterion)))),
-      )
-
-  pub file_facts : (r : Result (Unit {0}) Refusal) (status : ℕ) → status ≡ status_in r → Ended r → WasRead status → ForAsked words (λ name at. IfSome (files name) (λ file. Facts status file at))
-  file_facts (Ok u) status is a read = λ name at asks.
-      let fact = asked_fact words (λ name at. (text : List ℕ) × OfFile (files name) (λ file. IsReply file at text) × Appends old new text) a name at asks in
-      if_told (files name) _ _ (λ file both. replied status file at fact.0 (omega arith) (omega arith) both) fact.1
+  pub file_facts : (r : Result (Unit {0}) Refusal) (status : ℕ) → status ≡ status_in r → Ended r → WasRead status → ForAsked words (λ name asked. IfSome (files name) (λ file. Facts status file asked))
+  file_facts (Ok u) status is a read = λ name asked asks.
+      let fact = asked_fact words (λ name asked. (text : List ℕ) × OfFile (files name) (λ file. IsReply file asked text) × Appends old new text) a name asked asks in
+      if_told (files name) _ _ (λ file both. replied status file asked (omega arith) (omega arith) (omega arith) both.0 (has_reply file asked fact.0 both.1)) fact.1
   file_facts (Err refusal.Words) status is a read = absurd (read.0 is)
   file_facts (Err (refusal.Shelf told)) status is a read = absurd (read.1 is)
   file_facts (Err (refusal.TooLong told)) status is a read = absurd (read.1 is)
-  file_facts (Err refusal.Unsupported) status is a read = λ name at asks.
-      let fact = asked_fact words (λ name at. OfFile (files name) IsUnsupported) a.0 name at asks in
-      if_told (files name) _ _ (λ file both. (both.0, ((λ nine. both.1), (λ unsupported. is)), ((λ five. absurd (omega arith)), (λ absent. absurd (both.1 absent.0 absent.1))))) fact
-  file_facts (Err (refusal.Absent told)) status is a read = λ name at asks.
-      let fact = asked_fact words (λ name at. (at ≡ told) × OfFile (files name) (λ file. IsAbsent file at)) a.0 name at asks in
-      if_told (files name) _ _ (λ file both. (both.0, ((λ nine. absurd (omega arith)), (λ unsupported. absurd (unsupported both.1.0 both.1.1))), ((λ five. both.1), (λ absent. is)))) fact.1
-  file_facts (Err refusal.Output) status is a read = λ name at asks.
-      let fact = asked_fact words _ a.0 name at asks in
-      if_told (files name) _ _ (λ file both. replied status file at fact.0 (omega arith) (omega arith) both) fact.1
+  file_facts (Err (refusal.Image cause)) status is a read = λ name asked asks.
+      let fact = asked_fact words (λ name asked. OfFile (files name) (λ file. HasNoImage file cause)) a.0 name asked asks in
+      if_told (files name) _ _ (λ file both. no_image status file asked cause is both.0 both.1) fact
+  file_facts (Err refusal.Entry) status is a read = λ name asked asks.
+      let fact = asked_fact words (λ name asked. OfFile (files name) HasNoEntry) a.0 name asked asks in
+      if_told (files name) _ _ (λ file both. no_entry status file asked is both.0 both.1) fact
+  file_facts (Err (refusal.Unsupported at)) status is a read = λ name asked asks.
+      let fact = asked_fact words (λ name asked. OfFile (files name) (λ file. IsUnsupported file asked at)) a.0 name asked asks in
+      if_told (files name) _ _ (λ file both. unsupported_place status file asked at is both.0 both.1) fact
+  file_facts (Err (refusal.Absent at)) status is a read = λ name asked asks.
+      let fact = asked_fact words (λ name asked. OfFile (files name) (λ file. IsAbsent file asked at)) a.0 name asked asks in
+      if_told (files name) _ _ (λ file both. absent_place status file asked at is both.0 both.1) fact
+  file_facts (Err refusal.Output) status is a read = λ name asked asks.
+      let fact = asked_fact words _ a.0 name asked asks in
+      if_told (files name) _ _ (λ file both. replied status file asked (omega arith) (omega arith) (omega arith) both.0 (has_reply file asked fact.0 both.1)) fact.1
   file_facts (Err refusal.Memory) status is a read = absurd (read.2 is)
 
-  pub within_holds : (r : Result (Unit {0}) Refusal) (status : ℕ) → status ≡ status_in r → Ended r → WasRead status → ForAsked words (λ name at. IfSome (files name) (λ file. length file ≤ image_limit))
-  within_holds r status is a read = λ name at asks. if_told (files name) _ _ (λ file facts. facts.0) (file_facts r status is a read name at asks)
+  pub within_holds : (r : Result (Unit {0}) Refusal) (status : ℕ) → status ≡ status_in r → Ended r → WasRead status → ForAsked words (λ name asked. IfSome (files name) (λ file. length file ≤ image_limit))
+  within_holds r status is a read = λ name asked asks. if_told (files name) _ _ (λ file facts. facts.0) (file_facts r status is a read name asked asks)
 
-  pub unsupported_holds : (r : Result (Unit {0}) Refusal) (status : ℕ) → status ≡ status_in r → Ended r → WasRead status → ForAsked words (λ name at. IfSome (files name) (λ file. (status ≡ 9) ↔ IsUnsupported file))
-  unsupported_holds r status is a read = λ name at asks. if_told (files name) _ _ (λ file facts. facts.1) (file_facts r status is a read name at asks)
+  pub image_holds : (r : Result (Unit {0}) Refusal) (status : ℕ) → status ≡ status_in r → Ended r → WasRead status → ForAsked words (λ name asked. IfSome (files name) (λ file. (status ≡ 4) ↔ ((cause : ElfError) × HasNoImage file cause)))
+  image_holds r status is a read = λ name asked asks. if_told (files name) _ _ (λ file facts. facts.1) (file_facts r status is a read name asked asks)
 
-  pub absent_holds : (r : Result (Unit {0}) Refusal) (status : ℕ) → status ≡ status_in r → Ended r → WasRead status → ForAsked words (λ name at. IfSome (files name) (λ file. (status ≡ 5) ↔ IsAbsent file at))
-  absent_holds r status is a read = λ name at asks. if_told (files name) _ _ (λ file facts. facts.2) (file_facts r status is a read name at asks)
+  pub absent_holds : (r : Result (Unit {0}) Refusal) (status : ℕ) → status ≡ status_in r → Ended r → WasRead status → ForAsked words (λ name asked. IfSome (files name) (λ file. (status ≡ 5) ↔ (HasNoEntry file ⊎ ((at : ℕ) × IsAbsent file asked at))))
+  absent_holds r status is a read = λ name asked asks. if_told (files name) _ _ (λ file facts. facts.2) (file_facts r status is a read name asked asks)
+
+  pub unsupported_holds : (r : Result (Unit {0}) Refusal) (status : ℕ) → status ≡ status_in r → Ended r → WasRead status → ForAsked words (λ name asked. IfSome (files name) (λ file. (status ≡ 9) ↔ ((at : ℕ) × IsUnsupported file asked at)))
+  unsupported_holds r status is a read = λ name asked asks. if_told (files name) _ _ (λ file facts. facts.3) (file_facts r status is a read name asked asks)
 
   pub output_holds : (e : Refusal) (status : ℕ) → status ≡ status_of e → Ended (Err e) → status ≡ 6 → Rose faults faults_now
   output_holds refusal.Words status is a six = absurd (omega arith)
-  output_holds (refusal.Shelf by) status is a six = absurd (omega arith)
-  output_holds (refusal.TooLong by) status is a six = absurd (omega arith)
-  output_holds refusal.Unsupported status is a six = absurd (omega arith)
-  output_holds (refusal.Absent by) status is a six = absurd (omega arith)
+  output_holds (refusal.Shelf told) status is a six = absurd (omega arith)
+  output_holds (refusal.TooLong told) status is a six = absurd (omega arith)
+  output_holds (refusal.Image cause) status is a six = absurd (omega arith)
+  output_holds refusal.Entry status is a six = absurd (omega arith)
+  output_holds (refusal.Unsupported at) status is a six = absurd (omega arith)
+  output_holds (refusal.Absent at) status is a six = absurd (omega arith)
   output_holds refusal.Output status is a six = a.1
   output_holds refusal.Memory status is a six = absurd (omega arith)
 
   pub part_holds : (e : Refusal) (status : ℕ) → status ≡ status_of e → Ended (Err e) → status ≡ 6 → WritesPart words files old new
   part_holds refusal.Words status is a six = absurd (omega arith)
-  part_holds (refusal.Shelf by) status is a six = absurd (omega arith)
-  part_holds (refusal.TooLong by) status is a six = absurd (omega arith)
-  part_holds refusal.Unsupported status is a six = absurd (omega arith)
-  part_holds (refusal.Absent by) status is a six = absurd (omega arith)
-  part_holds refusal.Output status is a six = λ name at asks.
-      let fact = asked_fact words _ a.0 name at asks in
+  part_holds (refusal.Shelf told) status is a six = absurd (omega arith)
+  part_holds (refusal.TooLong told) status is a six = absurd (omega arith)
+  part_holds (refusal.Image cause) status is a six = absurd (omega arith)
+  part_holds refusal.Entry status is a six = absurd (omega arith)
+  part_holds (refusal.Unsupported at) status is a six = absurd (omega arith)
+  part_holds (refusal.Absent at) status is a six = absurd (omega arith)
+  part_holds refusal.Output status is a six = λ name asked asks.
+      let fact = asked_fact words _ a.0 name asked asks in
       if_told (files name) _ _ (λ file both. (fact.0, both.1, fact.2)) fact.1
   part_holds refusal.Memory status is a six = absurd (omega arith)
 
   pub untouched_holds : (r : Result (Unit {0}) Refusal) (status : ℕ) → status ≡ status_in r → Ended r → WritesNothing status old new
   untouched_holds (Ok u) status is a = λ not_zero not_six. absurd (not_zero is)
   untouched_holds (Err refusal.Words) status is a = λ not_zero not_six. a.1
-  untouched_holds (Err (refusal.Shelf by)) status is a = λ not_zero not_six. a.1
-  untouched_holds (Err (refusal.TooLong by)) status is a = λ not_zero not_six. a.1
-  untouched_holds (Err refusal.Unsupported) status is a = λ not_zero not_six. a.1
-  untouched_holds (Err (refusal.Absent by)) status is a = λ not_zero not_six. a.1
+  untouched_holds (Err (refusal.Shelf told)) status is a = λ not_zero not_six. a.1
+  untouched_holds (Err (refusal.TooLong told)) status is a = λ not_zero not_six. a.1
+  untouched_holds (Err (refusal.Image cause)) status is a = λ not_zero not_six. a.1
+  untouched_holds (Err refusal.Entry) status is a = λ not_zero not_six. a.1
+  untouched_holds (Err (refusal.Unsupported at)) status is a = λ not_zero not_six. a.1
+  untouched_holds (Err (refusal.Absent at)) status is a = λ not_zero not_six. a.1
   untouched_holds (Err refusal.Output) status is a = λ not_zero not_six. absurd (not_six is)
   untouched_holds (Err refusal.Memory) status is a = λ not_zero not_six. a.1
 
@@ -259,74 +349,106 @@ module _ (words : List (List ℕ)) (files : List ℕ → Option (List ℕ)) (bef
   told_is (Some file) P f = f file refl
 
   pub complete_holds : (r : Result (Unit {0}) Refusal) (status : ℕ) → status ≡ status_in r → Ended r
-      → ForAsked words (λ name at. IfSome (files name) (λ file. length file ≤ image_limit → HasReply file at → ¬ Rose (before name) (now name) → ¬ Rose faults faults_now → (status ≡ 0) ⊎ (status ≡ 7)))
-  complete_holds (Ok u) status is a = λ name at asks. told_is (files name) _ (λ file told short has calm calm_out. inl is)
-  complete_holds (Err refusal.Words) status is a = λ name at asks. absurd (a.0 name at asks)
-  complete_holds (Err (refusal.Shelf by)) status is a = λ name at asks.
-      let fact = asked_fact words (λ name at. (name ≡ by.now) × Rose (before name) (now name)) a.0 name at asks in
+      → ForAsked words (λ name asked. IfSome (files name) (λ file. length file ≤ image_limit → HasReply file asked → ¬ Rose (before name) (now name) → ¬ Rose faults faults_now → (status ≡ 0) ⊎ (status ≡ 7)))
+  complete_holds (Ok u) status is a = λ name asked asks. told_is (files name) _ (λ file told short has calm calm_out. inl is)
+  complete_holds (Err refusal.Words) status is a = λ name asked asks. absurd (a.0 name asked asks)
+  complete_holds (Err (refusal.Shelf by)) status is a = λ name asked asks.
+      let fact = asked_fact words (λ name asked. (name ≡ by.now) × Rose (before name) (now name)) a.0 name asked asks in
       told_is (files name) _ (λ file told short has calm calm_out. absurd (calm fact.1))
-  complete_holds (Err (refusal.TooLong by)) status is a = λ name at asks.
-      let fact = asked_fact words (λ name at. (name ≡ by.now) × IsLonger (files name) image_limit) a.0 name at asks in
+  complete_holds (Err (refusal.TooLong by)) status is a = λ name asked asks.
+      let fact = asked_fact words (λ name asked. (name ≡ by.now) × IsLonger (files name) image_limit) a.0 name asked asks in
       told_is (files name) _ (λ file told short has calm calm_out. let long = longer (files name) file told fact.1 in absurd (omega arith))
-  complete_holds (Err refusal.Unsupported) status is a = λ name at asks.
-      let fact = asked_fact words (λ name at. OfFile (files name) IsUnsupported) a.0 name at asks in
-      if_told (files name) _ _ (λ file both short has calm calm_out. absurd (both.1 has.0 has.1)) fact
-  complete_holds (Err (refusal.Absent by)) status is a = λ name at asks.
-      let fact = asked_fact words (λ name at. (at ≡ by) × OfFile (files name) (λ file. IsAbsent file at)) a.0 name at asks in
-      if_told (files name) _ _ (λ file both short has calm calm_out. absurd (both.1.2 (subst (λ is. HasNode is at) (one_code file has.0 both.1.0 has.1 both.1.1) has.2))) fact.1
-  complete_holds (Err refusal.Output) status is a = λ name at asks. told_is (files name) _ (λ file told short has calm calm_out. absurd (calm_out a.1))
-  complete_holds (Err refusal.Memory) status is a = λ name at asks. told_is (files name) _ (λ file told short has calm calm_out. inr is)
+  complete_holds (Err (refusal.Image cause)) status is a = λ name asked asks.
+      let fact = asked_fact words (λ name asked. OfFile (files name) (λ file. HasNoImage file cause)) a.0 name asked asks in
+      if_told (files name) _ _ (λ file both short has calm calm_out. let there = reply_enters file asked has in absurd (loads_passes file there.image cause there.entered.loads both.1)) fact
+  complete_holds (Err refusal.Entry) status is a = λ name asked asks.
+      let fact = asked_fact words (λ name asked. OfFile (files name) HasNoEntry) a.0 name asked asks in
+      if_told (files name) _ _ (λ file both short has calm calm_out. let there = reply_enters file asked has in absurd (enters_once file there.image there.entered both.1)) fact
+  complete_holds (Err (refusal.Unsupported at)) status is a = λ name asked asks.
+      let fact = asked_fact words (λ name asked. OfFile (files name) (λ file. IsUnsupported file asked at)) a.0 name asked asks in
+      if_told (files name) _ _ (λ file both short has calm calm_out. absurd (reply_supported file asked at has both.1)) fact
+  complete_holds (Err (refusal.Absent at)) status is a = λ name asked asks.
+      let fact = asked_fact words (λ name asked. OfFile (files name) (λ file. IsAbsent file asked at)) a.0 name asked asks in
+      if_told (files name) _ _ (λ file both short has calm calm_out. absurd (reply_present file asked at has both.1)) fact
+  complete_holds (Err refusal.Output) status is a = λ name asked asks. told_is (files name) _ (λ file told short has calm calm_out. absurd (calm_out a.1))
+  complete_holds (Err refusal.Memory) status is a = λ name asked asks. told_is (files name) _ (λ file told short has calm calm_out. inr is)
 
   -- what was told on the error sink
-  pub silent_lines : (err err_now : Option (List ℕ)) (err_faults err_faults_now : ℕ) → err_now ≡ err → ErrorLines words 0 err err_now err_faults err_faults_now
+  pub silent_lines : (err err_now : Option (List ℕ)) (err_faults err_faults_now : ℕ) → err_now ≡ err → ErrorLines words files 0 err err_now err_faults err_faults_now
   silent_lines err err_now err_faults err_faults_now same = record {
     silent = λ zero_is. same;
     words_told = λ two. absurd (omega arith);
+    image_told = λ four. absurd (omega arith);
     absent_told = λ five. absurd (omega arith);
     output_told = λ six. absurd (omega arith);
     memory_told = λ seven. absurd (omega arith);
     unsupported_told = λ nine. absurd (omega arith);
   }
 
-  pub told_lines : (e : Refusal) (status : ℕ) (err err_now : Option (List ℕ)) (err_faults err_faults_now : ℕ) → status ≡ status_of e → Ended (Err e) → TellsLine err err_now err_faults err_faults_now (line_of e) → ErrorLines words status err err_now err_faults err_faults_now
+  -- of a file that is told, without its length
+  fact_of : (o : Option (List ℕ)) (P : List ℕ → Type 0) → OfFile o P → IfSome o P
+  fact_of o P fact = if_told o _ _ (λ file both. both.1) fact
+
+  pub told_lines : (e : Refusal) (status : ℕ) (err err_now : Option (List ℕ)) (err_faults err_faults_now : ℕ) → status ≡ status_of e → Ended (Err e) → TellsLine err err_now err_faults err_faults_now (line_of e) → ErrorLines words files status err err_now err_faults err_faults_now
   told_lines refusal.Words status err err_now err_faults err_faults_now is a line = record {
     silent = λ zero_is. absurd (omega arith);
     words_told = λ two. line;
+    image_told = λ four. absurd (omega arith);
     absent_told = λ five. absurd (omega arith);
     output_told = λ six. absurd (omega arith);
     memory_told = λ seven. absurd (omega arith);
     unsupported_told = λ nine. absurd (omega arith);
   }
-  told_lines (refusal.Shelf by) status err err_now err_faults err_faults_now is a line = record {
+  told_lines (refusal.Shelf told) status err err_now err_faults err_faults_now is a line = record {
     silent = λ zero_is. absurd (omega arith);
     words_told = λ two. absurd (omega arith);
+    image_told = λ four. absurd (omega arith);
     absent_told = λ five. absurd (omega arith);
     output_told = λ six. absurd (omega arith);
     memory_told = λ seven. absurd (omega arith);
     unsupported_told = λ nine. absurd (omega arith);
   }
-  told_lines (refusal.TooLong by) status err err_now err_faults err_faults_now is a line = record {
+  told_lines (refusal.TooLong told) status err err_now err_faults err_faults_now is a line = record {
     silent = λ zero_is. absurd (omega arith);
     words_told = λ two. absurd (omega arith);
+    image_told = λ four. absurd (omega arith);
     absent_told = λ five. absurd (omega arith);
     output_told = λ six. absurd (omega arith);
     memory_told = λ seven. absurd (omega arith);
     unsupported_told = λ nine. absurd (omega arith);
   }
-  told_lines refusal.Unsupported status err err_now err_faults err_faults_now is a line = record {
+  told_lines (refusal.Image cause) status err err_now err_faults err_faults_now is a line = record {
     silent = λ zero_is. absurd (omega arith);
     words_told = λ two. absurd (omega arith);
+    image_told = λ four name asked asks. (cause, fact_of (files name) _ (asked_fact words (λ name asked. OfFile (files name) (λ file. HasNoImage file cause)) a.0 name asked asks), line);
     absent_told = λ five. absurd (omega arith);
     output_told = λ six. absurd (omega arith);
     memory_told = λ seven. absurd (omega arith);
-    unsupported_told = λ nine. line;
+    unsupported_told = λ nine. absurd (omega arith);
   }
-  told_lines (refusal.Absent by) status err err_now err_faults err_faults_now is a line = record {
+  told_lines refusal.Entry status err err_now err_faults err_faults_now is a line = record {
     silent = λ zero_is. absurd (omega arith);
     words_told = λ two. absurd (omega arith);
-    absent_told = λ five name at asks.
-        let fact = asked_fact words (λ name at. (at ≡ by) × OfFile (files name) (λ file. IsAbsent file at)) a.0 name at asks in
-        subst (λ b. TellsLine err err_now err_faults err_faults_now (line_of (refusal.Absent b))) (sym fact.0) line;
+    image_told = λ four. absurd (omega arith);
+    absent_told = λ five name asked asks. inl (fact_of (files name) _ (asked_fact words (λ name asked. OfFile (files name) HasNoEntry) a.0 name asked asks), line);
+    output_told = λ six. absurd (omega arith);
+    memory_told = λ seven. absurd (omega arith);
+    unsupported_told = λ nine. absurd (omega arith);
+  }
+  told_lines (refusal.Unsupported at) status err err_now err_faults err_faults_now is a line = record {
+    silent = λ zero_is. absurd (omega arith);
+    words_told = λ two. absurd (omega arith);
+    image_told = λ four. absurd (omega arith);
+    absent_told = λ five. absurd (omega arith);
+    output_told = λ six. absurd (omega arith);
+    memory_told = λ seven. absurd (omega arith);
+    unsupported_told = λ nine name asked asks. (at, fact_of (files name) _ (asked_fact words (λ name asked. OfFile (files name) (λ file. IsUnsupported file asked at)) a.0 name asked asks), line);
+  }
+  told_lines (refusal.Absent at) status err err_now err_faults err_faults_now is a line = record {
+    silent = λ zero_is. absurd (omega arith);
+    words_told = λ two. absurd (omega arith);
+    image_told = λ four. absurd (omega arith);
+    absent_told = λ five name asked asks. inr (at, fact_of (files name) _ (asked_fact words (λ name asked. OfFile (files name) (λ file. IsAbsent file asked at)) a.0 name asked asks), line);
     output_told = λ six. absurd (omega arith);
     memory_told = λ seven. absurd (omega arith);
     unsupported_told = λ nine. absurd (omega arith);
@@ -334,6 +456,7 @@ module _ (words : List (List ℕ)) (files : List ℕ → Option (List ℕ)) (bef
   told_lines refusal.Output status err err_now err_faults err_faults_now is a line = record {
     silent = λ zero_is. absurd (omega arith);
     words_told = λ two. absurd (omega arith);
+    image_told = λ four. absurd (omega arith);
     absent_told = λ five. absurd (omega arith);
     output_told = λ six. line;
     memory_told = λ seven. absurd (omega arith);
@@ -342,12 +465,35 @@ module _ (words : List (List ℕ)) (files : List ℕ → Option (List ℕ)) (bef
   told_lines refusal.Memory status err err_now err_faults err_faults_now is a line = record {
     silent = λ zero_is. absurd (omega arith);
     words_told = λ two. absurd (omega arith);
+    image_told = λ four. absurd (omega arith);
     absent_told = λ five. absurd (omega arith);
     output_told = λ six. absurd (omega arith);
     memory_told = λ seven. line;
     unsupported_told = λ nine. absurd (omega arith);
   }
 
--- what was told is the line of the refusal
-pub told_of : (told : List ℕ → Type 0) (given variant : Refusal) (line : List ℕ) → given ≡ variant → line ≡ line_of variant → told line → told (line_of given)
-told_of told given variant line is same p = subst (λ (e : Refusal). told (line_of e)) (sym is) (subst told same p)
+-- the code that was found is that of a file with this image
+pub file_code : (file : List ℕ) (image : Image) (code : List ℕ) (instrs : List Instr) → Enters file image → code ≡ code_of image image.entry → IsStraight image.entry code instrs → HasCode file instrs
+file_code file image code instrs entered is straight = record { image = image; entered = entered; straight = subst (λ c. IsStraight image.entry c instrs) is straight }
+
+-- the text of a list that begins in code
+pub file_list : (file : List ℕ) (image : Image) (from : Option ℕ) (steps place : ℕ) (text : List ℕ) → Enters file image → place ≡ first_place image from → is_code image place ≡ true → IsTheListing image place steps text → IsListReply file from steps text
+file_list file image from steps place text entered is code lists = record {
+  there = record { image = image; entered = entered; begins = subst (λ a. is_code image a ≡ true) is code };
+  lists = subst (λ a. IsTheListing image a steps text) is lists;
+}
+
+-- how a request ends whose file doesn't answer
+refused_by : (words : List (List ℕ)) (files : List ℕ → Option (List ℕ)) (before now : List ℕ → ℕ) (old : Option (List ℕ)) (faults : ℕ) (name bytes : List ℕ) (asked : Task) (why : NoReply)
+    → Asks words name asked → Gives (files name) bytes → length bytes ≤ image_limit → Replies bytes asked (Err why) → Answers words files before now old old faults faults (Err (refusal_of why))
+refused_by words files before now old faults name bytes asked (none.Image cause) asks gives short fact = (record { name = name; asked = asked; asks = asks; fact = of_file (files name) bytes _ gives short fact }, refl)
+refused_by words files before now old faults name bytes asked none.Entry asks gives short fact = (record { name = name; asked = asked; asks = asks; fact = of_file (files name) bytes _ gives short fact }, refl)
+refused_by words files before now old faults name bytes asked (none.Unsupported at) asks gives short fact = (record { name = name; asked = asked; asks = asks; fact = of_file (files name) bytes _ gives short fact }, refl)
+refused_by words files before now old faults name bytes asked (none.Absent at) asks gives short fact = (record { name = name; asked = asked; asks = asks; fact = of_file (files name) bytes _ gives short fact }, refl)
+refused_by words files before now old faults name bytes asked none.Memory asks gives short fact = (record { name = name; asked = asked; asks = asks; fact = tt }, refl)
+
+pub refused : (words : List (List ℕ)) (files : List ℕ → Option (List ℕ)) (before now : List ℕ → ℕ) (old : Option (List ℕ)) (faults : ℕ) (name bytes : List ℕ) (asked : Task) (r : Result (Vec ℕ Global) NoReply) (why : NoReply)
+    → Asks words name asked → Gives (files name) bytes → length bytes ≤ image_limit → Replies bytes asked r → r ≡ Err why → Answers words files before now old old faults faults (Err (refusal_of why))
+refused words files before now old faults name bytes asked r why asks gives short replies is =
+    let fact : Replies bytes asked (Err why) = subst (λ x. Replies bytes asked x) is replies in
+    refused_by words files before now old faults name bytes asked why asks gives short fact

@@ -11,7 +11,7 @@ use Rattle.ia32_types.specs.declared.Operand.TheVariants as operand
 use Rattle.ia32_types.specs.declared.Op.{Op}
 use Rattle.ia32_types.specs.declared.Op.TheVariants as op
 use Rattle.ia32_types.specs.declared.Instr.{Instr}
-use Rattle.surf_prog.specs.ImageMapImage.{Image}
+use Rattle.image_map.specs.declared.image.Image.{Image}
 use Rattle.surf_prog.specs.ImageMapState.{Activation, Bytes, State, esp, put, word_at}
 use Rattle.surf_prog.specs.Ia32Machine.{Settings, Executes, register_number, read_operand, write_operand, with_some, without_choice, next_place, wrapped_sum, sum_flags, moved, added, returned, ended, row, Step, AgreesBut, is_call_or_return, is_stack_address, is_forgotten}
 

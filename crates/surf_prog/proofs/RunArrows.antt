@@ -7,7 +7,7 @@ use Rattle.surf_prog.specs.FlowGraph.{FlowNode, IsAt, IsStep, MayUse, MayDefine,
 use Rattle.surf_prog.specs.DepGraph.{DataEdge}
 use Rattle.surf_prog.specs.ControlWalks.{Controls}
 use Rattle.surf_prog.specs.Slicer.{InSlice, criterion, source, IsSlice}
-use Rattle.surf_prog.specs.ImageMapImage.{Image}
+use Rattle.image_map.specs.declared.image.Image.{Image}
 use Rattle.surf_prog.specs.Ia32Machine.{Settings}
 use Rattle.surf_prog.specs.Ia32Run.{Occurrence, stands_at, Place, is_place, Reads, Writes, DataDependence, ControlDependence, DirectDependence, Chain, Depends}
 

@@ -3,7 +3,7 @@ use Rattle.std.proofs.Common.{◌≡◌, ℕ, zero, suc, List, [], ◌∷◌, ta
 use Rattle.std.specs.Prelude.{Bool, true, false, ◌||◌}
 use Rattle.std.specs.List.{list_any}
 use Rattle.std.proofs.Math.Seq.{take-nil}
-use Rattle.surf_prog.specs.ImageMapImage.{Image}
+use Rattle.image_map.specs.declared.image.Image.{Image}
 use Rattle.surf_prog.specs.ImageMapState.{State, esp}
 use Rattle.surf_prog.specs.Ia32Machine.{Settings, is_in_block, blocks_given, AreBlocks, AreActivations, StartsAreWhole}
 use Rattle.surf_prog.specs.Ia32Run.{Occurrence, Goes, BeginningsAreRuns}

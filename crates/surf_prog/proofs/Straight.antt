@@ -16,26 +16,8 @@ use Rattle.ia32_types.proofs.SpellsLaws.{one_spelling, not_empty, mov_number_spe
 use Rattle.surf_prog.specs.Slicer.{IsSlice}
 use Rattle.surf_prog.specs.StraightCode.{Lists, IsStraight, AreStraight, straight_graph, is_move_or_add, is_return, is_register_form, names_esp, most_instructions}
 use Rattle.surf_prog.proofs.Places.{flag_reads_of}
+pub use Rattle.surf_prog.proofs.OneBegins.{one_begins}
 use Rattle.surf_prog.proofs.Backward.{IsQuiet, IsRisingCode, walked, walked_slice}
-
--- one of two fronts of a list goes on from the other
-either_front : (xs ys us vs : List ℕ) → xs ++ us ≡ ys ++ vs → ((r : List ℕ) × (ys ≡ xs ++ r)) ⊎ ((r : List ℕ) × (xs ≡ ys ++ r))
-either_front [] ys us vs same = inl (ys, refl)
-either_front (x ∷ xs) [] us vs same = inr (x ∷ xs, refl)
-either_front (x ∷ xs) (y ∷ ys) us vs same =
-    let head : x ≡ y = cc in
-    let tail : xs ++ us ≡ ys ++ vs = cc in
-    ⊎_elim
-    (λ on. inl (on.0, (ap (λ z. z ∷ ys) (sym head) ∙ ap (λ l. x ∷ l) on.1)))
-    (λ on. inr (on.0, (ap (λ z. z ∷ xs) head ∙ ap (λ l. y ∷ l) on.1)))
-    (either_front xs ys us vs tail)
-
--- bytes begin with one instruction at most
-pub one_begins : (code : List ℕ) (at : ℕ) (i j : Instr) → Begins code at i → Begins code at j → i ≡ j
-one_begins code at i j p q = ⊎_elim
-    (λ on. (one_spelling p.used on.0 at i j p.spells (subst (λ bytes. Spells bytes at j) on.1 q.spells)).1)
-    (λ on. sym (one_spelling q.used on.0 at j i q.spells (subst (λ bytes. Spells bytes at i) on.1 p.spells)).1)
-    (either_front p.used q.used p.rest q.rest (sym p.split ∙ q.split))
 
 -- where an instruction stands, and that it has a byte
 pub begins_at : (code : List ℕ) (at : ℕ) (i : Instr) → Begins code at i → i.at ≡ at
@@ -68,36 +50,12 @@ one_list (i ∷ h ∷ is) (j ∷ k ∷ js) at code p q =
     let there : Lists (at + i.len) (drop i.len code) (k ∷ js) = subst (λ (x : Instr). Lists (at + x.len) (drop x.len code) (k ∷ js)) (sym head) q.3 in
     ap (λ x. x ∷ h ∷ is) head ∙ ap (λ l. j ∷ l) (one_list (h ∷ is) (k ∷ js) (at + i.len) (drop i.len code) p.3 there)
 
--- nothing is listed where nothing begins
-pub none_listed : (at : ℕ) (code : List ℕ) → ((i : Instr) → ¬ Begins code at i) → (is : List Instr) → ¬ Lists at code is
-none_listed at code none [] p = absurd p
-none_listed at code none (i ∷ []) p = none i p.1
-none_listed at code none (i ∷ j ∷ is) p = none i p.1
-
--- nor where what begins is no return, and no move or addition without ESP
-pub other_listed : (at : ℕ) (code : List ℕ) (i : Instr) → Begins code at i → is_return code ≡ false → (is_move_or_add code ≡ false) ⊎ (names_esp i ≡ true) → (is : List Instr) → ¬ Lists at code is
-other_listed at code i begins no_return no_step [] p = absurd p
-other_listed at code i begins no_return no_step (j ∷ []) p = absurd (false≢true (sym no_return ∙ p.0))
-other_listed at code i begins no_return no_step (j ∷ k ∷ is) p = ⊎_elim
-    (λ no_move. absurd (false≢true (sym no_move ∙ p.0)))
-    (λ named. absurd (false≢true (sym p.2 ∙ ap names_esp (one_begins code at j i p.1 begins) ∙ named)))
-    no_step
-
--- The instructions so far lead from the entry to this place: what is listed from here is listed from the entry behind them,
--- and everything that is listed from the entry goes on from them.
+-- The instructions so far lead from the entry to this place: what is listed from here is listed from the entry behind them.
 pub record LeadsTo (entry : ℕ) (code : List ℕ) (so_far : List Instr) (at : ℕ) (rest : List ℕ) : Type 0 where
   pub forth : (tail : List Instr) → Lists at rest tail → Lists entry code (so_far ++ tail)
-  pub back : (is : List Instr) → Lists entry code is → (tail : List Instr) × (is ≡ so_far ++ tail) × Lists at rest tail
 
 pub leads_start : (entry : ℕ) (code : List ℕ) → LeadsTo entry code [] entry code
-leads_start entry code = record { forth = λ tail p. p; back = λ is p. (is, refl, p) }
-
-some_tail : (at : ℕ) (rest : List ℕ) (i : Instr) (tail : List Instr) → Lists at rest tail → IsTrue (is_move_or_add rest) → Begins rest at i → (more : List Instr) × (tail ≡ i ∷ more) × Lists (at + i.len) (drop i.len rest) more
-some_tail at rest i [] p move begins = absurd p
-some_tail at rest i (j ∷ []) p move begins = absurd (not_both rest move p.0)
-some_tail at rest i (j ∷ k ∷ is) p move begins =
-    let same : j ≡ i = one_begins rest at j i p.1 begins in
-    (k ∷ is, ap (λ x. x ∷ k ∷ is) same, subst (λ (x : Instr). Lists (at + x.len) (drop x.len rest) (k ∷ is)) same p.3)
+leads_start entry code = record { forth = λ tail p. p }
 
 cons_lists : (at : ℕ) (rest : List ℕ) (i : Instr) (more : List Instr) → IsTrue (is_move_or_add rest) → Begins rest at i → names_esp i ≡ false → Lists (at + i.len) (drop i.len rest) more → Lists at rest (i ∷ more)
 cons_lists at rest i [] move begins unnamed p = absurd p
@@ -106,10 +64,6 @@ cons_lists at rest i (j ∷ is) move begins unnamed p = (move, begins, unnamed, 
 pub leads_on : (entry : ℕ) (code : List ℕ) (so_far : List Instr) (at : ℕ) (rest : List ℕ) (i : Instr) → LeadsTo entry code so_far at rest → IsTrue (is_move_or_add rest) → Begins rest at i → names_esp i ≡ false → LeadsTo entry code (so_far ++ i ∷ []) (at + i.len) (drop i.len rest)
 leads_on entry code so_far at rest i leads move begins unnamed = record {
   forth = λ tail p. subst (λ (l : List Instr). Lists entry code l) (sym (append_assoc so_far (i ∷ []) tail)) (leads.forth (i ∷ tail) (cons_lists at rest i tail move begins unnamed p));
-  back = λ is p.
-      let before = leads.back is p in
-      let parts = some_tail at rest i before.0 before.2 move begins in
-      (parts.0, before.1 ∙ ap (λ l. so_far ++ l) parts.1 ∙ sym (append_assoc so_far (i ∷ []) parts.0), parts.2);
 }
 
 -- the same with the numbers of the loop
@@ -127,23 +81,6 @@ leads_end entry code so_far at rest i leads return begins few = record {
   lists = leads.forth (i ∷ []) (return, begins);
   short = let long = length-append so_far (i ∷ []) in omega arith;
 }
-
--- where nothing is listed from the place, nothing is from the entry
-pub leads_nowhere : (entry : ℕ) (code : List ℕ) (so_far : List Instr) (at : ℕ) (rest : List ℕ) → LeadsTo entry code so_far at rest → ((is : List Instr) → ¬ Lists at rest is) → (is : List Instr) → ¬ IsStraight entry code is
-leads_nowhere entry code so_far at rest leads none is straight = let parts = leads.back is straight.lists in none parts.0 parts.2
-
-some_listed : (at : ℕ) (rest : List ℕ) (is : List Instr) → Lists at rest is → 1 ≤ length is
-some_listed at rest [] p = absurd p
-some_listed at rest (i ∷ is) p = omega arith
-
--- nor after as many instructions as there may be
-pub leads_too_far : (entry : ℕ) (code : List ℕ) (so_far : List Instr) (at : ℕ) (rest : List ℕ) → LeadsTo entry code so_far at rest → most_instructions ≤ length so_far → (is : List Instr) → ¬ IsStraight entry code is
-leads_too_far entry code so_far at rest leads many is straight =
-    let parts = leads.back is straight.lists in
-    let some = some_listed at rest parts.0 parts.2 in
-    let long = ap length parts.1 ∙ length-append so_far parts.0 in
-    let short = straight.short in
-    absurd (omega arith)
 
 -- What the first bytes say of the operation.
 begun : (code : List ℕ) (at : ℕ) (i : Instr) (p : Begins code at i) → Spells (take (length p.used) code) at i

@@ -6,9 +6,10 @@ use Rattle.ia32_types.specs.declared.Op.TheVariants as op
 use Rattle.ia32_types.specs.declared.Instr.{Instr}
 use Rattle.ia32_types.proofs.SpellsLaws.{near_return}
 use Rattle.surf_prog.specs.StraightCode.{Lists}
-use Rattle.surf_prog.specs.ImageMapImage.{Image}
+use Rattle.image_map.specs.declared.image.Image.{Image}
+use Rattle.surf_prog.specs.Fetch.{IsFetched}
 use Rattle.surf_prog.specs.ImageMapState.{Activation, Bytes, State, esp, word_at}
-use Rattle.surf_prog.specs.Ia32Machine.{Settings, Executes, HALT, IsFetched, Step, AgreesBut, row, ended, next_place, is_single, completes}
+use Rattle.surf_prog.specs.Ia32Machine.{Settings, Executes, HALT, Step, AgreesBut, row, ended, next_place, is_single, completes}
 use Rattle.surf_prog.specs.Ia32Run.{Occurrence, Goes, IsComplete}
 use Rattle.surf_prog.specs.StraightRuns.{StartsComplete}
 use Rattle.surf_prog.proofs.StraightPlaces.{split}

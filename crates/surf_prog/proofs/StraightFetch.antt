@@ -6,9 +6,10 @@ use Rattle.std.proofs.lemmas.List.{take_at, take-append-drop, take-take, take-ap
 use Rattle.ia32_types.specs.declared.Instr.{Instr}
 use Rattle.ia32_types.specs.Spells.{Spells, Begins}
 use Rattle.ia32_types.proofs.SpellsLaws.{one_spelling}
-use Rattle.surf_prog.specs.ImageMapImage.{Image, byte_at, is_code}
-use Rattle.surf_prog.specs.Ia32Machine.{code_byte, begun_by, code_run, longest_instruction, fetch_window, IsFetched}
-use Rattle.surf_prog.specs.StraightRuns.{HoldsCode}
+use Rattle.image_map.specs.declared.image.Image.{Image}
+use Rattle.image_map.specs.Queries.{byte_at, is_code}
+use Rattle.surf_prog.specs.Fetch.{code_byte, begun_by, code_run, longest_instruction, fetch_window, IsFetched}
+use Rattle.surf_prog.specs.Code.{HoldsCode}
 use Rattle.surf_prog.proofs.StraightPlaces.{split}
 
 -- a shorter beginning of some bytes begins a longer one
@@ -47,6 +48,7 @@ code_after image entry code has n le = record {
 
 -- what is fetched begins with the code there, as far as it goes
 run_begins : (image : Image) (entry n : ℕ) (code : List ℕ) → HoldsCode image entry code → (rest : List ℕ) × (take n code ++ rest ≡ code_run image entry n)
+unfolding code_run
 run_begins image entry zero code has = ([], refl)
 run_begins image entry (suc n) [] has = (code_run image entry (suc n), refl)
 run_begins image entry (suc n) (b ∷ code) has =
@@ -70,7 +72,6 @@ is_spelled code at i begins =
 
 -- an instruction of the code lies in what is fetched
 begins_window : (image : Image) (entry : ℕ) (code : List ℕ) (i : Instr) → HoldsCode image entry code → IsSpelled code entry i → take i.len code ≡ take i.len (fetch_window image entry)
-unfolding fetch_window
 begins_window image entry code i has begins =
     let r = run_begins image entry longest_instruction code has in
     let within = begins.within in

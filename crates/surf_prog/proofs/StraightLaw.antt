@@ -1,21 +1,21 @@
 -- Straight code's runs walk its graph, so that every dependence is in its slice.
-use Rattle.std.proofs.Common.{◌≡◌, ℕ, zero, suc, ◌+◌, ◌-◌, ◌^◌, ◌<◌, ◌≤◌, List, [], ◌∷◌, length, Some, None, refl, sym, ap, subst, ◌∙◌, arith}
-use Rattle.std.specs.Option.{option_and_then, option_map_or}
-use Rattle.std.specs.Prelude.{◌⊎◌, is_some, ◌≢◌, ◌&&◌, ◌==◌, cond, not, nat_lt, Bool, true, false, slice_get, slice_index, Contains, IsTrue, IsSomeAnd}
-use Rattle.std.proofs.lemmas.Option.{none-some, same_Some, slice_get-get_or}
-use Rattle.std.proofs.lemmas.Bool.{cases_lt, false≢true}
-use borrow.Author.Tests.{ltb-true, eq-eqb, le-leb, lt-ltb}
+use Rattle.std.proofs.Common.{◌≡◌, ℕ, zero, suc, ◌+◌, List, [], ◌∷◌, Some, refl, sym, ap, subst, ◌∙◌, arith}
+use Rattle.std.specs.Prelude.{◌≢◌, ◌&&◌, ◌==◌, not, nat_lt, Bool, true, false, slice_get, Contains, IsTrue, IsSomeAnd}
+use Rattle.std.proofs.lemmas.Option.{none-some, same_Some}
+use Rattle.std.proofs.lemmas.Bool.{false≢true}
+use borrow.Author.Tests.{ltb-true, eq-eqb}
 use Rattle.ia32_types.specs.declared.Instr.{Instr}
 use Rattle.ia32_types.specs.Places.{registers_read, registers_written, flags_read, flags_written}
 use Rattle.surf_prog.specs.FlowGraph.{FlowNode, Has, IsAt, IsStep, esp_place}
 use Rattle.surf_prog.specs.Slicer.{IsSlice}
 use Rattle.surf_prog.specs.StraightCode.{IsStraight, straight_node, nodes_from, straight_graph}
-use Rattle.surf_prog.specs.ImageMapImage.{Image, Segment, PF_X, holds, segment_at, is_in_segment, has_flag, byte_at}
-use Rattle.surf_prog.specs.ImageMapState.{State, esp}
-use Rattle.surf_prog.specs.Ia32Machine.{Settings, Executes, stack_low, IsStart, is_single}
+use Rattle.image_map.specs.declared.image.Image.{Image}
+use Rattle.surf_prog.specs.Code.{HoldsCode}
+use Rattle.surf_prog.specs.ImageMapState.{esp}
+use Rattle.surf_prog.specs.Ia32Machine.{Settings, Executes, is_single}
 use Rattle.surf_prog.specs.Ia32Run.{Occurrence, stands_at, IsRun, Place, InRegister, InFlag, AtByte, is_place, act_reads, act_writes, DataDependence, ControlDependence}
-use Rattle.surf_prog.specs.StraightRuns.{code_segment, code_image, HoldsCode, Executed, RunsExecuteInOrder, ReadsHaveEdges, SlicesListDependences, CodeSlicesListDependences}
-use Rattle.surf_prog.proofs.StraightPlaces.{split, both_of, both_are, register_place, place_register, flag_place, place_flag}
+use Rattle.surf_prog.specs.StraightRuns.{Executed, RunsExecuteInOrder, ReadsHaveEdges, SlicesListDependences}
+use Rattle.surf_prog.proofs.StraightPlaces.{both_of, both_are, register_place, place_register, flag_place, place_flag}
 use Rattle.surf_prog.proofs.StraightWalk.{Ready, AreExecuted, executed, executed_at}
 use Rattle.surf_prog.proofs.RunArrows.{Walked, Carried, Covered, carried, data_edge, listed}
 
@@ -188,46 +188,3 @@ slices_list_dependences image settings code instrs straight code_is skip_sp at a
     listed (straight_graph instrs) image settings skip_sp run (λ k. k) (walked instrs image settings skip_sp run all)
     j i criterion source criterion_is source_is depends addresses
     (subst (λ a. IsSlice (straight_graph instrs) a skip_sp addresses) (sym there) slice)
-
--- the image of code alone has it
-module _ (start : ℕ) (code : List ℕ) (k : ℕ) (h : k < length code) where
-  inside : holds (start + k) (code_segment start code) ≡ true
-  inside =
-      let e : start + k - start ≡ k = omega arith in
-      both_are _ _ (le-leb start (start + k) (omega arith)) (subst (λ n. nat_lt n (length code) ≡ true) (sym e) (lt-ltb k (length code) h))
-
-  found : segment_at (code_segment start code ∷ []) (start + k) ≡ Some (code_segment start code)
-  found = ap (λ b. cond b (Some (code_segment start code)) None) inside
-
-  byte_found : byte_at (code_image start code) (start + k) ≡ Some (slice_index code k)
-  byte_found =
-      let e : start + k - start ≡ k = omega arith in
-      ap (λ o. option_and_then (λ (s : Segment). slice_get s.bytes (start + k - s.start)) o) found ∙ ap (slice_get code) e ∙ slice_get-get_or code k 0 h
-
-pub code_image_has_code : (start : ℕ) (code : List ℕ) → start + length code < 2 ^ 32 → HoldsCode (code_image start code) start code
-code_image_has_code start code fits = record {
-  fits = fits;
-  is_code = λ k h. ap (λ o. option_map_or (has_flag PF_X) o false) (found start code k h);
-  known = λ k h. byte_found start code k h;
-}
-
--- A start's stack lies outside the code, so code that begins below the stack also ends below it.
-ends_below : (settings : Settings) (code : List ℕ) (start : State) → settings.entry < stack_low → IsStart (code_image settings.entry code) settings start → settings.entry + length code < 2 ^ 32
-ends_below settings code start low is =
-    let slot = start.registers esp in
-    let above = is.slot.above in
-    let below = is.slot.below in
-    split (apart_or settings.entry (length code) slot)
-    (λ inside.
-    let here : is_in_segment (code_image settings.entry code) slot ≡ true =
-    ap (λ b. is_some (cond b (Some (code_segment settings.entry code)) None)) (both_are _ _ (le-leb settings.entry slot (omega arith)) (lt-ltb (slot - settings.entry) (length code) inside)) in
-    split (is.apart slot here) (λ far. absurd (omega arith)) (λ far. absurd (omega arith)))
-    (λ outside. omega arith)
-  where
-    apart_or : (entry n slot : ℕ) → (slot - entry < n) ⊎ (n ≤ slot - entry)
-    apart_or entry n slot = cases_lt (slot - entry) n
-
-pub code_slices_list_dependences : CodeSlicesListDependences
-code_slices_list_dependences settings code instrs low straight skip_sp at addresses slice run is =
-    slices_list_dependences (code_image settings.entry code) settings code instrs straight
-    (code_image_has_code settings.entry code (ends_below settings code is.start low is.starts)) skip_sp at addresses slice run is

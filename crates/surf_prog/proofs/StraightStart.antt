@@ -1,26 +1,39 @@
--- The image of some code has a start.
-use Rattle.std.proofs.Common.{◌≡◌, ℕ, ◌+◌, ◌-◌, ◌^◌, ◌<◌, ◌≤◌, List, [], ◌∷◌, length, Option, Some, None, refl, sym, ap, subst, ◌∙◌, inl, cond, arith}
-use Rattle.std.specs.Prelude.{Bool, true, false, ◌&&◌, ◌||◌, ◌==◌, if◌then◌else◌, nat_le, nat_lt, slice_get, is_some}
+-- Each image has a start.
+use Rattle.std.proofs.Common.{◌≡◌, ℕ, ◌+◌, ◌-◌, ◌^◌, ◌<◌, List, [], ◌∷◌, length, Option, Some, None, refl, ap, subst, ◌∙◌, inl, cond, arith}
+use Rattle.std.specs.Prelude.{Bool, true, false, ◌&&◌, ◌||◌, ◌==◌, if◌then◌else◌, nat_le, nat_lt, is_some, unwrap_or}
 use Rattle.std.specs.Option.{option_and_then}
-use Rattle.std.proofs.lemmas.Option.{none-some, same_Some, slice_get-get_or}
+use Rattle.std.proofs.lemmas.Option.{none-some, same_Some}
 use Rattle.std.proofs.lemmas.Bool.{false≢true}
 use borrow.Author.Tests.{leb-true, ltb-true, lt-leb}
-use Rattle.surf_prog.specs.ImageMapImage.{Segment, Image, holds, is_in_segment, byte_at}
+use Rattle.image_map.specs.declared.image.Segment.{Segment}
+use Rattle.image_map.specs.declared.image.Image.{Image}
+use Rattle.image_map.specs.Memory.{holds, segment_at}
+use Rattle.image_map.specs.Queries.{is_in_segment, byte_at}
+use Rattle.image_map.specs.Ranges.{is_any}
+use Rattle.image_map.specs.Whole.{IsPlaced, ArePlaced}
 use Rattle.surf_prog.specs.ImageMapState.{Bytes, State, esp}
-use Rattle.surf_prog.specs.Ia32Machine.{Settings, image_high, is_in_stack, entry_activation}
-use Rattle.surf_prog.specs.StraightRuns.{code_segment, code_image, CodeStarts}
+use Rattle.surf_prog.specs.Ia32Machine.{Settings, is_in_stack, entry_activation}
+use Rattle.surf_prog.specs.StraightRuns.{ImagesStart}
 use Rattle.surf_prog.proofs.StraightPlaces.{both_of}
 
 -- a place for the entry's return slot
 abbrev slot : ℕ
 slot = 0xBFF0000C
 
+-- segments lie below this address
+abbrev pub image_end : ℕ
+image_end = 0x7FFFFFFF
+
 -- HALT in the slot, and 0 elsewhere
 abbrev stack_byte : ℕ → ℕ
 stack_byte a = if a == slot + 2 then 255 else (if a == slot + 3 then 255 else 0)
 
+-- 0 where any byte may stand
+abbrev segment_byte : Image → ℕ → ℕ
+segment_byte image a = unwrap_or (byte_at image a) 0
+
 abbrev start_memory : Image → Bytes
-start_memory image a = if is_in_stack slot a then Some (stack_byte a) else byte_at image a
+start_memory image a = if is_in_stack slot a then Some (stack_byte a) else (if is_in_segment image a then Some (segment_byte image a) else None)
 
 abbrev start_state : Settings → Image → State
 start_state settings image = record {
@@ -34,76 +47,96 @@ start_state settings image = record {
   allocs = [];
 }
 
--- one choice of two
-chosen : (P : Option ℕ → Type 0) (b : Bool) (x y : Option ℕ) → P x → P y → P (cond b x y)
-chosen P true x y p q = p
-chosen P false x y p q = q
+-- -- Choices
 
-some_or : (b : Bool) (value : ℕ) (o : Option ℕ) → is_some (cond b (Some value) o) ≡ (is_some o || b)
-some_or true value None = refl
-some_or true value (Some x) = refl
-some_or false value None = refl
-some_or false value (Some x) = refl
+-- what is chosen of three is there where one of the first two is
+is_there : (in_stack in_segment : Bool) (x y : ℕ) → is_some (cond in_stack (Some x) (cond in_segment (Some y) None)) ≡ (in_segment || in_stack)
+is_there true true x y = refl
+is_there true false x y = refl
+is_there false true x y = refl
+is_there false false x y = refl
 
-is_there : {A : Type 0} (b : Bool) (x : A) → is_some (cond b (Some x) None) ≡ true → b ≡ true
-is_there true x h = refl
-is_there false x h = absurd (false≢true h)
+chosen_below : (in_stack in_segment : Bool) (x y byte bound : ℕ) → x < bound → y < bound → cond in_stack (Some x) (cond in_segment (Some y) None) ≡ Some byte → byte < bound
+chosen_below true in_segment x y byte bound x_below y_below e = subst (λ v. v < bound) (same_Some x byte e) x_below
+chosen_below false true x y byte bound x_below y_below e = subst (λ v. v < bound) (same_Some y byte e) y_below
+chosen_below false false x y byte bound x_below y_below e = absurd (none-some byte e)
 
 number_below : (b : Bool) (x y bound : ℕ) → x < bound → y < bound → cond b x y < bound
 number_below true x y bound p q = p
 number_below false x y bound p q = q
 
-module _ (first : ℕ) (code : List ℕ) where
-  -- an address of the segment
-  pub within_segment : (a : ℕ) → holds a (code_segment first code) ≡ true → (first ≤ a) × (a - first < length code)
-  within_segment a h = let both = both_of _ _ h in (leb-true first a both.0, ltb-true (a - first) (length code) both.1)
+known_below : (o : Option ℕ) (bound : ℕ) → 0 < bound → ((byte : ℕ) → o ≡ Some byte → byte < bound) → unwrap_or o 0 < bound
+known_below None bound some below = some
+known_below (Some byte) bound some below = below byte refl
 
-  -- its bytes are all known
-  byte_there : (a : ℕ) (b : Bool) → holds a (code_segment first code) ≡ b → is_some (option_and_then (λ (s : Segment). slice_get s.bytes (a - s.start)) (cond b (Some (code_segment first code)) None)) ≡ is_some (cond b (Some (code_segment first code)) None)
-  byte_there a true h = ap is_some (slice_get-get_or code (a - first) 0 (within_segment a h).1)
-  byte_there a false h = refl
+-- -- The image's bytes
 
-  mapped : (a : ℕ) → is_some (byte_at (code_image first code) a) ≡ is_in_segment (code_image first code) a
-  mapped a = byte_there a (holds a (code_segment first code)) refl
+-- a known byte comes from a segment
+from_segment : (any : Bool) (o : Option Segment) (f : Segment → Option ℕ) (byte : ℕ) → cond any None (option_and_then f o) ≡ Some byte → is_some o ≡ true
+from_segment true o f byte e = absurd (none-some byte e)
+from_segment false None f byte e = absurd (none-some byte e)
+from_segment false (Some s) f byte e = refl
 
-  in_segment : (a : ℕ) → is_in_segment (code_image first code) a ≡ true → (first ≤ a) × (a - first < length code)
-  in_segment a h = within_segment a (is_there (holds a (code_segment first code)) (code_segment first code) h)
+in_segment : (image : Image) (a byte : ℕ) → byte_at image a ≡ Some byte → is_in_segment image a ≡ true
+in_segment image a byte e = from_segment (is_any image.any_bytes a) (segment_at image.segments a) _ byte e
 
-  byte_of_code : (a : ℕ) (b : Bool) (byte : ℕ) → option_and_then (λ (s : Segment). slice_get s.bytes (a - s.start)) (cond b (Some (code_segment first code)) None) ≡ Some byte → slice_get code (a - first) ≡ Some byte
-  byte_of_code a true byte e = e
-  byte_of_code a false byte e = absurd (none-some byte e)
+held_below : (s : Segment) (a : ℕ) → IsPlaced s → holds a s ≡ true → a < image_end
+held_below s a placed held =
+    let both = both_of (nat_le s.start a) (nat_lt (a - s.start) (length s.bytes)) held in
+    let low = leb-true s.start a both.0 in
+    let high = ltb-true (a - s.start) (length s.bytes) both.1 in
+    let end = placed.high in
+    omega arith
 
-outside : (a : ℕ) → a < image_high → is_in_stack slot a ≡ false
+found_below : (s : Segment) (a : ℕ) (held : Bool) (o : Option Segment) → holds a s ≡ held → IsPlaced s → (is_some o ≡ true → a < image_end) → is_some (cond held (Some s) o) ≡ true → a < image_end
+found_below s a true o e placed rest h = held_below s a placed e
+found_below s a false o e placed rest h = rest h
+
+-- what lies in a segment lies below the end of their addresses
+pub segments_below : (segments : List Segment) (a : ℕ) → ArePlaced segments → is_some (segment_at segments a) ≡ true → a < image_end
+segments_below [] a placed h = absurd (false≢true h)
+segments_below (s ∷ ss) a placed h = found_below s a (holds a s) (segment_at ss a) refl placed.0 (λ there. segments_below ss a placed.2 there) h
+
+outside : (a : ℕ) → a < image_end → is_in_stack slot a ≡ false
 outside a h =
     let before : nat_le (slot - 2 ^ 20) a ≡ false = lt-leb (slot - 2 ^ 20) a (omega arith) in
     ap (λ b. b && nat_lt a (slot + 2 ^ 16)) before
 
-pub code_starts : CodeStarts
-code_starts first code settings placed entry bytes =
-    let image = code_image first code in
-    let low : (a : ℕ) → is_in_segment image a ≡ true → a < image_high = λ a h. (let i = in_segment first code a h in omega (arith, i.0, i.1)) in (
-      start_state settings image,
-      record {
-        sized = record {
-          registers = λ n. number_below (n == esp) slot 0 (2 ^ 32) (omega arith) (omega arith);
-          eip = omega arith;
-          memory = λ a byte e. chosen (λ o. o ≡ Some byte → byte < 256) (is_in_stack slot a) (Some (stack_byte a)) (byte_at image a)
-              (λ s. subst (λ v. v < 256) (same_Some (stack_byte a) byte s)
-              (number_below (a == slot + 2) 255 _ 256 (omega arith) (number_below (a == slot + 3) 255 0 256 (omega arith) (omega arith))))
-              (λ c. bytes (a - first) byte (byte_of_code first code a (holds a (code_segment first code)) byte c))
-              e;
-        };
-        eip = refl;
-        df = refl;
-        slot = record { aligned = refl; above = omega arith; below = omega arith };
-        halt = refl;
-        mapped = λ a. some_or (is_in_stack slot a) (stack_byte a) (byte_at image a) ∙ ap (λ b. b || is_in_stack slot a) (mapped first code a);
-        known = λ a byte e.
-            let there = sym (mapped first code a) ∙ ap is_some e in
-            ap (λ b. if b then Some (stack_byte a) else byte_at image a) (outside a (low a there)) ∙ e;
-        apart = λ a h. (let l = low a h in inl (omega arith));
-        activations = refl;
-        blocks = refl;
-        allocs = refl;
-      },
-    )
+-- a known byte is in the memory of the start
+known : (image : Image) (a byte : ℕ) → ArePlaced image.segments → byte_at image a ≡ Some byte → start_memory image a ≡ Some byte
+known image a byte placed e =
+    let there = in_segment image a byte e in
+    let no_stack = outside a (segments_below image.segments a placed there) in
+    ap (λ b. if b then Some (stack_byte a) else (if is_in_segment image a then Some (segment_byte image a) else None)) no_stack
+    ∙ ap (λ b. if b then Some (segment_byte image a) else None) there
+    ∙ ap (λ o. Some (unwrap_or o 0)) e
+
+stack_byte_below : (a : ℕ) → stack_byte a < 256
+stack_byte_below a = number_below (a == slot + 2) 255 _ 256 (omega arith) (number_below (a == slot + 3) 255 0 256 (omega arith) (omega arith))
+
+memory_below : (image : Image) → ((a byte : ℕ) → byte_at image a ≡ Some byte → byte < 256) → (a byte : ℕ) → start_memory image a ≡ Some byte → byte < 256
+memory_below image below a byte e =
+    chosen_below (is_in_stack slot a) (is_in_segment image a) (stack_byte a) (segment_byte image a) byte 256
+    (stack_byte_below a) (known_below (byte_at image a) 256 (omega arith) (λ b is. below a b is)) e
+
+pub images_start : ImagesStart
+images_start image settings is_image entry below = (
+  start_state settings image,
+  record {
+    sized = record {
+      registers = λ n. number_below (n == esp) slot 0 (2 ^ 32) (omega arith) (omega arith);
+      eip = entry;
+      memory = memory_below image below;
+    };
+    eip = refl;
+    df = refl;
+    slot = record { aligned = refl; above = omega arith; below = omega arith };
+    halt = refl;
+    mapped = λ a. is_there (is_in_stack slot a) (is_in_segment image a) (stack_byte a) (segment_byte image a);
+    known = λ a byte e. known image a byte is_image.segments e;
+    apart = λ a h. (let low = segments_below image.segments a is_image.segments h in inl (omega arith));
+    activations = refl;
+    blocks = refl;
+    allocs = refl;
+  },
+)

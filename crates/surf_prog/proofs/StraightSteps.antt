@@ -10,7 +10,7 @@ use Rattle.ia32_types.specs.declared.Operand.TheVariants as operand
 use Rattle.ia32_types.specs.declared.Op.TheVariants as op
 use Rattle.ia32_types.specs.declared.Instr.{Instr}
 use Rattle.surf_prog.specs.StraightCode.{is_esp, names_esp}
-use Rattle.surf_prog.specs.ImageMapImage.{Image}
+use Rattle.image_map.specs.declared.image.Image.{Image}
 use Rattle.surf_prog.specs.ImageMapState.{Flags, State, esp, put, word_at}
 use Rattle.surf_prog.specs.Ia32Machine.{Settings, Executes, HALT, register_number, next_place, wrapped_sum, sum_flags, Step, completes, is_single}
 use Rattle.surf_prog.proofs.RowsUndone.{move_of, addition_of, return_of}

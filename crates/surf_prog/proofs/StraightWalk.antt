@@ -10,11 +10,12 @@ use Rattle.ia32_types.specs.declared.Instr.{Instr}
 use Rattle.ia32_types.specs.Spells.{Spells}
 use Rattle.ia32_types.proofs.SpellsLaws.{one_spelling, not_empty, mov_number_spelled, mov_register_spelled, add_register_spelled, near_return_spelled, mov_register_spells, add_register_spells, mov_number, mov_register, add_register, near_return}
 use Rattle.surf_prog.specs.StraightCode.{is_register_form, is_move_or_add, is_return, Lists}
-use Rattle.surf_prog.specs.ImageMapImage.{Image}
+use Rattle.image_map.specs.declared.image.Image.{Image}
 use Rattle.surf_prog.specs.ImageMapState.{State, esp, word_at}
 use Rattle.surf_prog.specs.Ia32Machine.{Settings, Act, Executes, HALT, IsActAt, Step, next_place, is_single, completes}
 use Rattle.surf_prog.specs.Ia32Run.{Occurrence, stands_at, Happens, is_last, Goes, is_branch, is_branch_operation}
-use Rattle.surf_prog.specs.StraightRuns.{HoldsCode, Executed}
+use Rattle.surf_prog.specs.Code.{HoldsCode}
+use Rattle.surf_prog.specs.StraightRuns.{Executed}
 use Rattle.surf_prog.proofs.StraightPlaces.{split, both_of, either_of}
 use Rattle.surf_prog.proofs.StraightSteps.{Keeps, move_step, addition_step, return_step}
 use Rattle.surf_prog.proofs.StraightFetch.{IsSpelled, is_spelled, one_fetched, code_after}

@@ -1,12 +1,14 @@
--- Laws of the words: digits and their values, and what the six words ask for.
-use Rattle.std.proofs.Common.{◌≡◌, ◌≢◌, ℕ, suc, ◌+◌, ◌*◌, ◌^◌, ◌<◌, ◌≤◌, List, [], ◌∷◌, length, get_or, Option, Some, None, Result, Ok, Err, sym, ◌∙◌, ap, subst, arith, MatchOption}
+-- Laws of the words: digits and their values, and that words ask for one thing at most.
+use Rattle.std.proofs.Common.{◌≡◌, ◌≢◌, inl, inr, ⊎_elim, codes, ℕ, suc, ◌+◌, ◌*◌, ◌^◌, ◌<◌, ◌≤◌, List, [], ◌∷◌, length, get_or, Option, Some, None, Result, Ok, Err, sym, ◌∙◌, ap, subst, arith, MatchOption}
 use Rattle.std.specs.Option.{IfSome}
 use Rattle.std.specs.Result.{result_ok}
 use Rattle.std.specs.Char.{digit_value}
 use Rattle.std.specs.Str.Parse.{IsNumeral, AllDigits, digits_value, digits_value_after, ParsesUnsigned}
 use Rattle.std.proofs.lemmas.Str.Parse.{without_leading_plus_none}
 use Rattle.std.proofs.Math.Nat.{mul-le-mul_left, mul-le-mul_right, pow-succ', pow-le-pow_right}
-use Rattle.surf_prog.specs.Words.{Writes, IsAddress, IsNumber, IsName, HasForm, AsksSlice}
+use Rattle.surf_prog.specs.declared.words.Task.{Task}
+use Rattle.surf_prog.specs.declared.words.Task.TheVariants as task
+use Rattle.surf_prog.specs.Words.{Writes, IsAddress, IsAtOption, IsStepsOption, SliceOptions, ListOptions, AsksTask, Asks}
 
 -- digits of a base up to 16, after n, write less than (n + 1) * 16 ^ their number
 value_below : (base n : ℕ) (ds : List ℕ) → base ≤ 16 → AllDigits base ds → digits_value_after base n ds + 1 ≤ (n + 1) * 16 ^ length ds
@@ -62,52 +64,73 @@ one_address word a b p q =
     let same : p.digits ≡ q.digits = cc in
     p.writes.value ∙ ap (digits_value 16) same ∙ sym q.writes.value
 
--- six words ask for one slice at most
-pub record Six (op name at_option at_word round_option round_word : List ℕ) (asked : List ℕ) (at : ℕ) : Type 0 where
-  pub form : HasForm op at_option round_option
-  pub named : IsName name
-  pub name_is : asked ≡ name
-  pub at_is : IsAddress at_word at
-  pub round_is : IsNumber round_word 0
+-- the option --at has the address of its word
+pub at_found : (option word : List ℕ) (r : Option ℕ) → option ≡ codes "--at" → MatchOption r ((at : ℕ) → ¬ IsAddress word at) (λ at. IsAddress word at) → MatchOption r ((at : ℕ) → ¬ IsAtOption option word at) (λ at. IsAtOption option word at)
+at_found option word None is h = λ at found. h at found.address
+at_found option word (Some at) is h = record { option_is = is; address = h }
 
-pub six_ask : (words : List (List ℕ)) (op name at_option at_word round_option round_word : List ℕ) → words ≡ op ∷ name ∷ at_option ∷ at_word ∷ round_option ∷ round_word ∷ [] → (asked : List ℕ) (at : ℕ) → AsksSlice words asked at → Six op name at_option at_word round_option round_word asked at
-six_ask words op name at_option at_word round_option round_word are asked at asks =
-    let both : asks.op ∷ asked ∷ asks.at_option ∷ asks.at_word ∷ asks.round_option ∷ asks.round_word ∷ [] ≡ op ∷ name ∷ at_option ∷ at_word ∷ round_option ∷ round_word ∷ [] = sym asks.words_are ∙ are in
-    let op_is : asks.op ≡ op = cc in
-    let name_is : asked ≡ name = cc in
-    let at_option_is : asks.at_option ≡ at_option = cc in
-    let at_word_is : asks.at_word ≡ at_word = cc in
-    let round_option_is : asks.round_option ≡ round_option = cc in
-    let round_word_is : asks.round_word ≡ round_word = cc in
-    record {
-      form = record { op_is = sym op_is ∙ asks.form.op_is; at_option_is = sym at_option_is ∙ asks.form.at_option_is; round_option_is = sym round_option_is ∙ asks.form.round_option_is };
-      named = subst (λ w. IsName w) name_is asks.named;
-      name_is = name_is;
-      at_is = subst (λ w. IsAddress w at) at_word_is asks.at_is;
-      round_is = subst (λ w. IsNumber w 0) round_word_is asks.round_is;
-    }
+-- words that ask for nothing
+pub no_slice : (a x r y : List ℕ) → ((at : ℕ) → ¬ IsAtOption a x at) → (t : Task) → ¬ AsksTask (codes "slice") (a ∷ x ∷ r ∷ y ∷ []) t
+no_slice a x r y none (task.Slice at) asks = none at asks.1.0
+no_slice a x r y none (task.List from steps) asks = absurd (cc)
 
-pub six_are_asked : (words : List (List ℕ)) (op name at_option at_word round_option round_word : List ℕ) (at : ℕ) → words ≡ op ∷ name ∷ at_option ∷ at_word ∷ round_option ∷ round_word ∷ [] → HasForm op at_option round_option → IsName name → IsAddress at_word at → IsNumber round_word 0 → AsksSlice words name at
-six_are_asked words op name at_option at_word round_option round_word at are form named at_is round_is =
-    record { at_word = at_word; round_word = round_word; op = op; at_option = at_option; round_option = round_option; form = form; words_are = are; named = named; at_is = at_is; round_is = round_is }
+pub no_list_of_one : (a x : List ℕ) → ((at : ℕ) → ¬ IsAtOption a x at) → ((steps : ℕ) → ¬ IsStepsOption a x steps) → (t : Task) → ¬ AsksTask (codes "list") (a ∷ x ∷ []) t
+no_list_of_one a x no_at no_steps (task.Slice at) asks = absurd (cc)
+no_list_of_one a x no_at no_steps (task.List from steps) asks = ⊎_elim (λ by_at. no_at by_at.0 by_at.1) (λ by_steps. no_steps steps by_steps.0) asks.1
 
--- other numbers of words ask for none
-pub other_length : (words : List (List ℕ)) → length words ≢ 6 → (asked : List ℕ) (at : ℕ) → ¬ AsksSlice words asked at
-other_length words other asked at asks = other (ap (λ (l : List (List ℕ)). length l) asks.words_are)
+pub no_list_without_at : (a x s y : List ℕ) → ((at : ℕ) → ¬ IsAtOption a x at) → (t : Task) → ¬ AsksTask (codes "list") (a ∷ x ∷ s ∷ y ∷ []) t
+no_list_without_at a x s y none (task.Slice at) asks = absurd (cc)
+no_list_without_at a x s y none (task.List from steps) asks = none asks.1.0 asks.1.1
+
+-- the elements of a list of four
+pub four_of : {X : Type 0} (xs : List X) (a b c d : X) → length xs ≡ 4 → a ≡ get_or xs 0 a → b ≡ get_or xs 1 b → c ≡ get_or xs 2 c → d ≡ get_or xs 3 d → xs ≡ a ∷ b ∷ c ∷ d ∷ []
+four_of [] a b c d len ia ib ic id = absurd (omega arith)
+four_of (u ∷ []) a b c d len ia ib ic id = absurd (omega arith)
+four_of (u ∷ v ∷ []) a b c d len ia ib ic id = absurd (omega arith)
+four_of (u ∷ v ∷ w ∷ []) a b c d len ia ib ic id = absurd (omega arith)
+four_of (u ∷ v ∷ w ∷ x ∷ []) a b c d len ia ib ic id = λ i. sym ia i ∷ sym ib i ∷ sym ic i ∷ sym id i ∷ []
+four_of (u ∷ v ∷ w ∷ x ∷ y ∷ rest) a b c d len ia ib ic id = absurd (omega arith)
+
+-- the options of a slice are at most one address, and those of a list one address and number
+one_steps : (word : List ℕ) (option : List ℕ) (a b : ℕ) → IsStepsOption option word a → IsStepsOption option word b → a ≡ b
+one_steps word option a b p q = p.number.value ∙ sym q.number.value
+
+one_from : (f g : Option ℕ) (s t : ℕ) → f ≡ g → s ≡ t → (◌≡◌ {A = Task} (task.List f s) (task.List g t))
+one_from f g s t p q = λ i. task.List (p i) (q i)
+
+at_isnt_steps : (option word other : List ℕ) (at steps : ℕ) → IsAtOption option word at → IsStepsOption option other steps → ⊥
+at_isnt_steps option word other at steps p q = let same : codes "--at" ≡ codes "--steps" = sym p.option_is ∙ q.option_is in absurd (cc)
+
+one_list_task : (options : List (List ℕ)) (f g : Option ℕ) (s t : ℕ) → ListOptions options f s → ListOptions options g t → (◌≡◌ {A = Task} (task.List f s) (task.List g t))
+one_list_task [] f g s t p q = one_from f g s t (p.0 ∙ sym q.0) (p.1 ∙ sym q.1)
+one_list_task (a ∷ []) f g s t p q = absurd p
+one_list_task (a ∷ x ∷ []) f g s t (inl p) (inl q) = one_from f g s t (p.2 ∙ ap Some (one_address x p.0 q.0 p.1.address q.1.address) ∙ sym q.2) (p.3 ∙ sym q.3)
+one_list_task (a ∷ x ∷ []) f g s t (inl p) (inr q) = absurd (at_isnt_steps a x x p.0 t p.1 q.0)
+one_list_task (a ∷ x ∷ []) f g s t (inr p) (inl q) = absurd (at_isnt_steps a x x q.0 s q.1 p.0)
+one_list_task (a ∷ x ∷ []) f g s t (inr p) (inr q) = one_from f g s t (p.1 ∙ sym q.1) (one_steps x a s t p.0 q.0)
+one_list_task (a ∷ x ∷ b ∷ []) f g s t p q = absurd p
+one_list_task (a ∷ x ∷ b ∷ y ∷ []) f g s t p q = one_from f g s t (p.2 ∙ ap Some (one_address x p.0 q.0 p.1.address q.1.address) ∙ sym q.2) (one_steps y b s t p.3 q.3)
+one_list_task (a ∷ x ∷ b ∷ y ∷ c ∷ rest) f g s t p q = absurd p
+
+one_slice_task : (options : List (List ℕ)) (a b : ℕ) → SliceOptions options a → SliceOptions options b → (◌≡◌ {A = Task} (task.Slice a) (task.Slice b))
+one_slice_task [] a b p q = absurd p
+one_slice_task (o ∷ []) a b p q = absurd p
+one_slice_task (o ∷ x ∷ []) a b p q = absurd p
+one_slice_task (o ∷ x ∷ r ∷ []) a b p q = absurd p
+one_slice_task (o ∷ x ∷ r ∷ y ∷ []) a b p q = ap task.Slice (one_address x a b p.0.address q.0.address)
+one_slice_task (o ∷ x ∷ r ∷ y ∷ z ∷ rest) a b p q = absurd p
+
+one_task : (op : List ℕ) (options : List (List ℕ)) (t u : Task) → AsksTask op options t → AsksTask op options u → t ≡ u
+one_task op options (task.Slice a) (task.Slice b) p q = one_slice_task options a b p.1 q.1
+one_task op options (task.Slice a) (task.List f s) p q = let same : codes "slice" ≡ codes "list" = sym p.0 ∙ q.0 in absurd (cc)
+one_task op options (task.List f s) (task.Slice a) p q = let same : codes "slice" ≡ codes "list" = sym q.0 ∙ p.0 in absurd (cc)
+one_task op options (task.List f s) (task.List g t) p q = one_list_task options f g s t p.1 q.1
 
 -- words make one request at most
-pub one_request : (words : List (List ℕ)) (name other : List ℕ) (a b : ℕ) → AsksSlice words name a → AsksSlice words other b → (name ≡ other) × (a ≡ b)
-one_request words name other a b p q =
-    let six = six_ask words q.op other q.at_option q.at_word q.round_option q.round_word q.words_are name a p in
-    (six.name_is, one_address q.at_word a b six.at_is q.at_is)
-
--- a list of six is its elements
-pub six_of : {X : Type 0} (xs : List X) (a b c d e f : X) → length xs ≡ 6 → a ≡ get_or xs 0 a → b ≡ get_or xs 1 b → c ≡ get_or xs 2 c → d ≡ get_or xs 3 d → e ≡ get_or xs 4 e → f ≡ get_or xs 5 f → xs ≡ a ∷ b ∷ c ∷ d ∷ e ∷ f ∷ []
-six_of [] a b c d e f len ia ib ic id ie if' = absurd (omega arith)
-six_of (u ∷ []) a b c d e f len ia ib ic id ie if' = absurd (omega arith)
-six_of (u ∷ v ∷ []) a b c d e f len ia ib ic id ie if' = absurd (omega arith)
-six_of (u ∷ v ∷ w ∷ []) a b c d e f len ia ib ic id ie if' = absurd (omega arith)
-six_of (u ∷ v ∷ w ∷ x ∷ []) a b c d e f len ia ib ic id ie if' = absurd (omega arith)
-six_of (u ∷ v ∷ w ∷ x ∷ y ∷ []) a b c d e f len ia ib ic id ie if' = absurd (omega arith)
-six_of (u ∷ v ∷ w ∷ x ∷ y ∷ z ∷ []) a b c d e f len ia ib ic id ie if' = λ i. sym ia i ∷ sym ib i ∷ sym ic i ∷ sym id i ∷ sym ie i ∷ sym if' i ∷ []
-six_of (u ∷ v ∷ w ∷ x ∷ y ∷ z ∷ t ∷ rest) a b c d e f len ia ib ic id ie if' = absurd (omega arith)
+pub one_request : (words : List (List ℕ)) (name other : List ℕ) (t u : Task) → Asks words name t → Asks words other u → (name ≡ other) × (t ≡ u)
+one_request words name other t u p q =
+    let both : p.op ∷ name ∷ p.options ≡ q.op ∷ other ∷ q.options = sym p.words_are ∙ q.words_are in
+    let op : p.op ≡ q.op = cc in
+    let names : name ≡ other = cc in
+    let options : p.options ≡ q.options = cc in
+    (names, one_task q.op q.options t u (subst (λ l. AsksTask q.op l t) options (subst (λ o. AsksTask o p.options t) op p.asks)) q.asks)

@@ -4,25 +4,48 @@ use Rattle.std.specs.declared.alloc.Global.{Global}
 use Rattle.surf_base.specs.Faults.{Rose}
 use Rattle.surf_base.specs.Shelf.{IsLonger}
 use Rattle.surf_base.specs.Sink.{Appends, AppendsLines}
+use Rattle.image_map.specs.declared.image.Image.{Image}
 use Rattle.surf_prog.specs.declared.request.NoReply.{NoReply}
 use Rattle.surf_prog.specs.declared.request.NoReply.TheVariants as none
-use Rattle.surf_prog.specs.declared.request.Refusal.{Refusal}
-use Rattle.surf_prog.specs.declared.request.Refusal.TheVariants as refusal
-use Rattle.surf_prog.specs.Words.{AsksSlice}
-use Rattle.surf_prog.specs.Once.{image_limit, IsReply, IsUnsupported, IsAbsent, AsksNothing, words_line, shelf_line, too_long_line, unsupported_line, absent_line, output_line, memory_line}
+use Rattle.surf_prog.specs.declared.refusal.Refusal.{Refusal}
+use Rattle.surf_prog.specs.declared.refusal.Refusal.TheVariants as refusal
+use Rattle.surf_prog.specs.declared.words.Task.{Task}
+use Rattle.surf_prog.specs.Words.{Asks}
+use Rattle.surf_prog.specs.Once.{image_limit, Enters, IsReply, HasNoImage, HasNoEntry, IsUnsupported, IsAbsent, AsksNothing, words_line, shelf_line, too_long_line, image_line, entry_line, unsupported_line, absent_line, output_line, memory_line}
 
-abbrev pub Replies : List ℕ → ℕ → Result (Vec ℕ Global) NoReply → Type 0
-Replies file at (Ok text) = IsReply file at text.items
-Replies file at (Err none.Unsupported) = IsUnsupported file
-Replies file at (Err none.Absent) = IsAbsent file at
-Replies file at (Err none.Memory) = Unit {0}
+-- what a file answers to a task, or why it doesn't
+abbrev pub Replies : List ℕ → Task → Result (Vec ℕ Global) NoReply → Type 0
+Replies file asked (Ok text) = IsReply file asked text.items
+Replies file asked (Err (none.Image cause)) = HasNoImage file cause
+Replies file asked (Err none.Entry) = HasNoEntry file
+Replies file asked (Err (none.Unsupported at)) = IsUnsupported file asked at
+Replies file asked (Err (none.Absent at)) = IsAbsent file asked at
+Replies file asked (Err none.Memory) = Unit {0}
 
--- what holds of the slice that is asked for
-pub record Asked (words : List (List ℕ)) (P : List ℕ → ℕ → Type 0) : Type 0 where
+-- the same for each file that has this image and is entered in code
+abbrev pub RepliesFrom : Image → Task → Result (Vec ℕ Global) NoReply → Type 0
+RepliesFrom image asked result = (file : List ℕ) → Enters file image → Replies file asked result
+
+-- why a file has no image
+abbrev pub IsNoImage : List ℕ → NoReply → Type 0
+IsNoImage file (none.Image cause) = HasNoImage file cause
+IsNoImage file none.Memory = Unit {0}
+IsNoImage file other = ⊥
+
+-- the refusal of a file that doesn't answer
+abbrev pub refusal_of : NoReply → Refusal
+refusal_of (none.Image cause) = refusal.Image cause
+refusal_of none.Entry = refusal.Entry
+refusal_of (none.Unsupported at) = refusal.Unsupported at
+refusal_of (none.Absent at) = refusal.Absent at
+refusal_of none.Memory = refusal.Memory
+
+-- what holds of the task that is asked for
+pub record Asked (words : List (List ℕ)) (P : List ℕ → Task → Type 0) : Type 0 where
   pub name : List ℕ
-  pub at : ℕ
-  pub asks : AsksSlice words name at
-  pub fact : P name at
+  pub asked : Task
+  pub asks : Asks words name asked
+  pub fact : P name asked
 
 -- of the file, where it is told: it is within the limit, and this holds of it
 abbrev pub OfFile : Option (List ℕ) → (List ℕ → Type 0) → Type 0
@@ -32,25 +55,31 @@ OfFile file P = IfSome file (λ bytes. (length bytes ≤ image_limit) × P bytes
 -- before and after, and its counts.
 abbrev pub Answers : List (List ℕ) → (List ℕ → Option (List ℕ)) → (List ℕ → ℕ) → (List ℕ → ℕ) → Option (List ℕ) → Option (List ℕ) → ℕ → ℕ → Result (Unit {0}) Refusal → Type 0
 Answers words files before now old new faults_before faults_now (Ok _) =
-    Asked words (λ name at. (text : List ℕ) × OfFile (files name) (λ file. IsReply file at text) × Appends old new text)
+    Asked words (λ name asked. (text : List ℕ) × OfFile (files name) (λ file. IsReply file asked text) × Appends old new text)
 Answers words files before now old new faults_before faults_now (Err refusal.Words) = AsksNothing words × (new ≡ old)
 Answers words files before now old new faults_before faults_now (Err (refusal.Shelf told)) =
-    Asked words (λ name at. (name ≡ told.now) × Rose (before name) (now name)) × (new ≡ old)
+    Asked words (λ name asked. (name ≡ told.now) × Rose (before name) (now name)) × (new ≡ old)
 Answers words files before now old new faults_before faults_now (Err (refusal.TooLong told)) =
-    Asked words (λ name at. (name ≡ told.now) × IsLonger (files name) image_limit) × (new ≡ old)
-Answers words files before now old new faults_before faults_now (Err refusal.Unsupported) =
-    Asked words (λ name at. OfFile (files name) IsUnsupported) × (new ≡ old)
-Answers words files before now old new faults_before faults_now (Err (refusal.Absent told)) =
-    Asked words (λ name at. (at ≡ told) × OfFile (files name) (λ file. IsAbsent file at)) × (new ≡ old)
+    Asked words (λ name asked. (name ≡ told.now) × IsLonger (files name) image_limit) × (new ≡ old)
+Answers words files before now old new faults_before faults_now (Err (refusal.Image cause)) =
+    Asked words (λ name asked. OfFile (files name) (λ file. HasNoImage file cause)) × (new ≡ old)
+Answers words files before now old new faults_before faults_now (Err refusal.Entry) =
+    Asked words (λ name asked. OfFile (files name) HasNoEntry) × (new ≡ old)
+Answers words files before now old new faults_before faults_now (Err (refusal.Unsupported at)) =
+    Asked words (λ name asked. OfFile (files name) (λ file. IsUnsupported file asked at)) × (new ≡ old)
+Answers words files before now old new faults_before faults_now (Err (refusal.Absent at)) =
+    Asked words (λ name asked. OfFile (files name) (λ file. IsAbsent file asked at)) × (new ≡ old)
 Answers words files before now old new faults_before faults_now (Err refusal.Output) =
-    Asked words (λ name at. (text : List ℕ) × OfFile (files name) (λ file. IsReply file at text) × AppendsLines old new text) × Rose faults_before faults_now
-Answers words files before now old new faults_before faults_now (Err refusal.Memory) = Asked words (λ name at. Unit {0}) × (new ≡ old)
+    Asked words (λ name asked. (text : List ℕ) × OfFile (files name) (λ file. IsReply file asked text) × AppendsLines old new text) × Rose faults_before faults_now
+Answers words files before now old new faults_before faults_now (Err refusal.Memory) = Asked words (λ name asked. Unit {0}) × (new ≡ old)
 
 abbrev pub line_of : Refusal → List ℕ
 line_of refusal.Words = words_line
 line_of (refusal.Shelf name) = shelf_line name.now
 line_of (refusal.TooLong name) = too_long_line name.now
-line_of refusal.Unsupported = unsupported_line
+line_of (refusal.Image cause) = image_line cause
+line_of refusal.Entry = entry_line
+line_of (refusal.Unsupported at) = unsupported_line at
 line_of (refusal.Absent at) = absent_line at
 line_of refusal.Output = output_line
 line_of refusal.Memory = memory_line
@@ -59,7 +88,9 @@ abbrev pub status_of : Refusal → ℕ
 status_of refusal.Words = 2
 status_of (refusal.Shelf name) = 3
 status_of (refusal.TooLong name) = 3
-status_of refusal.Unsupported = 9
+status_of (refusal.Image cause) = 4
+status_of refusal.Entry = 5
 status_of (refusal.Absent at) = 5
 status_of refusal.Output = 6
 status_of refusal.Memory = 7
+status_of (refusal.Unsupported at) = 9

@@ -1,7 +1,7 @@
 -- A machine that runs an image one instruction at a time, with the calls that it keeps track of.
 -- Instructions are those of the Intel SDM, volume 2; the start, the addresses of stack and blocks and what a return forgets
 -- are the project's own.
-use Rattle.std.specs.Prelude.{◌≡◌, ◌⊎◌, ℕ, zero, suc, ◌+◌, ◌-◌, ◌/◌, ◌%◌, ◌^◌, ◌<◌, ◌≤◌, ◌==◌, ◌&&◌, ◌||◌, not, nat_le, nat_lt, Bool, true, false, if◌then◌else◌, List, [], ◌∷◌, take, filter, map, Option, Some, None, is_some}
+use Rattle.std.specs.Prelude.{◌≡◌, ◌⊎◌, ℕ, zero, suc, ◌+◌, ◌-◌, ◌/◌, ◌%◌, ◌^◌, ◌<◌, ◌≤◌, ◌==◌, ◌&&◌, ◌||◌, not, nat_le, nat_lt, Bool, true, false, if◌then◌else◌, List, [], ◌∷◌, filter, map, Option, Some, None, is_some}
 use Rattle.std.specs.List.{list_any}
 use Rattle.ia32_types.specs.declared.Reg.{Reg}
 use Rattle.ia32_types.specs.declared.Reg.TheVariants.{Eax, Ecx, Edx, Ebx, Esp, Ebp, Esi, Edi}
@@ -12,17 +12,14 @@ use Rattle.ia32_types.specs.declared.Operand.TheVariants as operand
 use Rattle.ia32_types.specs.declared.Op.{Op}
 use Rattle.ia32_types.specs.declared.Op.TheVariants as op
 use Rattle.ia32_types.specs.declared.Instr.{Instr}
-use Rattle.ia32_types.specs.Spells.{Spells}
-use Rattle.surf_prog.specs.ImageMapImage.{Image, byte_at, is_code, is_in_segment}
+use Rattle.image_map.specs.declared.image.Image.{Image}
+use Rattle.image_map.specs.Queries.{byte_at, is_in_segment}
+use Rattle.surf_prog.specs.Fetch.{IsFetched}
 use Rattle.surf_prog.specs.ImageMapState.{Activation, Block, Alloc, Flags, Bytes, State, esp, put, word_at, IsSized}
 
 -- The address to which the entry's return goes. Nothing stands there.
 abbrev pub HALT : ℕ
 HALT = 0xFFFF0000
-
--- segments lie below this address
-abbrev pub image_high : ℕ
-image_high = 0x7FFFFFFF
 
 -- the stack lies between these addresses
 abbrev pub stack_low : ℕ
@@ -52,32 +49,6 @@ pub record Settings : Type 0 where
 -- What a machine does in one step.
 pub data Act : Type 0 where
   Executes : Instr → Act
-
--- -- Fetching
-
-abbrev pub code_byte : Image → ℕ → Option ℕ
-code_byte image a = if is_code image a then byte_at image a else None
-
-abbrev pub begun_by : Option ℕ → List ℕ → List ℕ
-begun_by None rest = []
-begun_by (Some byte) rest = byte ∷ rest
-
--- the longest run of at most n bytes from an address on that are all code and all known
-abbrev pub code_run : Image → ℕ → ℕ → List ℕ
-code_run image a zero = []
-code_run image a (suc n) = begun_by (code_byte image a) (code_run image (a + 1) n)
-
--- no instruction is longer
-abbrev pub longest_instruction : ℕ
-longest_instruction = 15
-
-unfoldable pub fetch_window : Image → ℕ → List ℕ
-fetch_window image a = code_run image a longest_instruction
-
--- the instruction at this address: the code bytes there begin with its spelling
-pub record IsFetched (image : Image) (a : ℕ) (i : Instr) : Type 0 where
-  pub count : ℕ
-  pub spelled : Spells (take count (fetch_window image a)) a i
 
 -- -- Operands
 

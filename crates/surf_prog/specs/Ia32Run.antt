@@ -12,7 +12,7 @@ use Rattle.ia32_types.specs.declared.Op.{Op}
 use Rattle.ia32_types.specs.declared.Op.TheVariants as op
 use Rattle.ia32_types.specs.declared.Instr.{Instr}
 use Rattle.ia32_types.specs.Places.{registers_read, registers_written, flags_read, flags_written}
-use Rattle.surf_prog.specs.ImageMapImage.{Image}
+use Rattle.image_map.specs.declared.image.Image.{Image}
 use Rattle.surf_prog.specs.ImageMapState.{Activation, State, esp}
 use Rattle.surf_prog.specs.Ia32Machine.{Settings, Act, Executes, register_number, IsActAt, IsStart, Step, completes, is_forgotten}
 

@@ -1,33 +1,50 @@
 -- What one request answers: its causes, its text, and its line on the error sink. The project's own.
-use Rattle.std.specs.Prelude.{◌≡◌, ◌⊎◌, ℕ, false, List, [], ◌∷◌, ◌++◌, codes, Option, IfSome, ◌≢◌}
+use Rattle.std.specs.Prelude.{◌≡◌, ◌≢◌, ◌⊎◌, ℕ, true, false, List, [], ◌∷◌, ◌++◌, codes, Option, None, Some, IfSome}
+use Rattle.std.specs.List.{flat_map}
+use Rattle.std.specs.Fmt.{decimal}
 use Rattle.surf_base.specs.Hex.{hex8_text}
 use Rattle.surf_base.specs.Sink.{Appends, AppendsPart, AppendsLines}
 use Rattle.surf_base.specs.Faults.{Rose}
+use Rattle.ia32_types.specs.declared.Instr.{Instr}
+use Rattle.image_map.specs.declared.image.Image.{Image}
+use Rattle.image_map.specs.Queries.{is_code}
+use Rattle.elf32.specs.declared.error.ElfError.{ElfError}
+use Rattle.elf32.specs.declared.error.ElfError.TheVariants as errors
+use Rattle.elf32.specs.Loading.{failure, Loads}
+use Rattle.surf_prog.specs.declared.words.Task.{Task}
+use Rattle.surf_prog.specs.declared.words.Task.TheVariants as task
 use Rattle.surf_prog.specs.FlowGraph.{IsAt}
 use Rattle.surf_prog.specs.Slicer.{IsSlice}
-use Rattle.surf_prog.specs.StraightCode.{IsStraight, straight_graph}
-use Rattle.surf_prog.specs.PlainFile.{IsPlain, plain_entry}
+use Rattle.surf_prog.specs.StraightCode.{IsStraight, StopsAt, straight_graph}
+use Rattle.surf_prog.specs.Code.{code_of}
+use Rattle.surf_prog.specs.Listing.{IsTheListing}
 use Rattle.surf_prog.specs.Reply.{slice_text}
-use Rattle.surf_prog.specs.Words.{AsksSlice}
-use Rattle.ia32_types.specs.declared.Instr.{Instr}
+use Rattle.surf_prog.specs.Words.{Asks}
 
 -- the greatest length of a file that is read
 abbrev pub image_limit : ℕ
 image_limit = 16777216
 
--- The file is plain, and its code is straight, with these instructions.
+-- -- What a file answers
+
+-- the file has this image, and its entry is code
+pub record Enters (file : List ℕ) (image : Image) : Type 0 where
+  pub loads : Loads file image
+  pub enters : is_code image image.entry ≡ true
+
+-- the code from the file's entry on is straight, with these instructions
 pub record HasCode (file : List ℕ) (instrs : List Instr) : Type 0 where
-  pub code : List ℕ
-  pub plain : IsPlain file code
-  pub straight : IsStraight plain_entry code instrs
+  pub image : Image
+  pub entered : Enters file image
+  pub straight : IsStraight image.entry (code_of image image.entry) instrs
 
 -- a node of the code's flow graph stands at the address
 abbrev pub HasNode : List Instr → ℕ → Type 0
 HasNode instrs at = (n : ℕ) × IsAt (straight_graph instrs) at n
 
--- The text is the reply to a slice at this address in this file: there is a list of addresses that is the slice of the file's
--- flow graph, and the text is that of this list, for round 0, lane 2 and no warning.
-pub record IsReply (file : List ℕ) (at : ℕ) (text : List ℕ) : Type 0 where
+-- The text is the reply to a slice at this address in this file: there is a list of addresses that is the slice of the flow
+-- graph of the file's code, and the text is that of this list, for round 0, lane 2 and no warning.
+pub record IsSliceReply (file : List ℕ) (at : ℕ) (text : List ℕ) : Type 0 where
   pub instrs : List Instr
   pub code : HasCode file instrs
   pub criterion : HasNode instrs at
@@ -35,21 +52,55 @@ pub record IsReply (file : List ℕ) (at : ℕ) (text : List ℕ) : Type 0 where
   pub slice : IsSlice (straight_graph instrs) at false addresses
   pub text_is : text ≡ slice_text at 0 2 addresses 0
 
--- the file isn't plain, or its code isn't straight
-abbrev pub IsUnsupported : List ℕ → Type 0
-IsUnsupported file = (instrs : List Instr) → ¬ HasCode file instrs
+-- a list begins at the address that was named, or at the entry
+abbrev pub first_place : Image → Option ℕ → ℕ
+first_place image None = image.entry
+first_place image (Some at) = at
 
--- its code is straight, and no node stands at the address
-abbrev pub IsAbsent : List ℕ → ℕ → Type 0
-IsAbsent file at = (instrs : List Instr) × HasCode file instrs × ¬ HasNode instrs at
+-- the file's image is entered in code, and a list from this address on begins in code
+pub record HasList (file : List ℕ) (from : Option ℕ) : Type 0 where
+  pub image : Image
+  pub entered : Enters file image
+  pub begins : is_code image (first_place image from) ≡ true
+
+-- the text lists the instructions of the file's image from this address on, and no other text does
+pub record IsListReply (file : List ℕ) (from : Option ℕ) (steps : ℕ) (text : List ℕ) : Type 0 where
+  pub there : HasList file from
+  pub lists : IsTheListing there.image (first_place there.image from) steps text
+
+-- the text is the reply to what is asked
+abbrev pub IsReply : List ℕ → Task → List ℕ → Type 0
+IsReply file (task.Slice at) text = IsSliceReply file at text
+IsReply file (task.List from steps) text = IsListReply file from steps text
+
+-- there is a reply
+abbrev pub HasReply : List ℕ → Task → Type 0
+HasReply file (task.Slice at) = (instrs : List Instr) × HasCode file instrs × HasNode instrs at
+HasReply file (task.List from steps) = HasList file from
+
+-- the file has no image: this check is the first that fails
+abbrev pub HasNoImage : List ℕ → ElfError → Type 0
+HasNoImage file cause = failure file ≡ Some cause
+
+-- the entry of its image isn't code
+abbrev pub HasNoEntry : List ℕ → Type 0
+HasNoEntry file = (image : Image) × Loads file image × (is_code image image.entry ≡ false)
+
+-- a slice is asked, and this is the first place at which the code from the entry on isn't straight
+abbrev pub IsUnsupported : List ℕ → Task → ℕ → Type 0
+IsUnsupported file (task.Slice at) stop = (image : Image) × Enters file image × StopsAt image.entry (code_of image image.entry) stop
+IsUnsupported file (task.List from steps) stop = ⊥
+
+-- the code is straight, and no node stands at the address; or a list was to begin at this address, which isn't code
+abbrev pub IsAbsent : List ℕ → Task → ℕ → Type 0
+IsAbsent file (task.Slice at) place = (place ≡ at) × ((instrs : List Instr) × HasCode file instrs × ¬ HasNode instrs at)
+IsAbsent file (task.List from steps) place = (from ≡ Some place) × ((image : Image) × Enters file image × (is_code image place ≡ false))
+
+-- -- What is told on the error sink
 
 -- the line was appended, or some beginning of it where the count of faults rose
 abbrev pub TellsLine : Option (List ℕ) → Option (List ℕ) → ℕ → ℕ → List ℕ → Type 0
 TellsLine old new before now line = Appends old new line ⊎ (AppendsPart old new line × Rose before now)
-
--- the file was read: it was come to, and neither the shelf nor memory failed
-abbrev pub WasRead : ℕ → Type 0
-WasRead status = (status ≢ 2) × (status ≢ 3) × (status ≢ 7)
 
 -- the lines of the refusals
 abbrev pub words_line : List ℕ
@@ -61,8 +112,42 @@ shelf_line name = codes "surf: shelf " ++ (name ++ 10 ∷ [])
 abbrev pub too_long_line : List ℕ → List ℕ
 too_long_line name = codes "surf: too long " ++ (name ++ (codes " 16777216" ++ 10 ∷ []))
 
-abbrev pub unsupported_line : List ℕ
-unsupported_line = codes "surf: unsupported 00000000" ++ 10 ∷ []
+-- the name of a failing check, and its numbers
+abbrev pub cause_name : ElfError → List ℕ
+cause_name (errors.Short n) = codes "Short"
+cause_name errors.Magic = codes "Magic"
+cause_name errors.Class = codes "Class"
+cause_name errors.Machine = codes "Machine"
+cause_name errors.Kind = codes "Kind"
+cause_name (errors.Header i) = codes "Header"
+cause_name (errors.Overlap j i) = codes "Overlap"
+cause_name (errors.Range i) = codes "Range"
+cause_name (errors.WritableCode i) = codes "WritableCode"
+cause_name (errors.Relocation index kind) = codes "Relocation"
+cause_name errors.TooMany = codes "TooMany"
+cause_name errors.Memory = codes "Memory"
+
+abbrev pub cause_numbers : ElfError → List ℕ
+cause_numbers (errors.Short n) = n ∷ []
+cause_numbers (errors.Header i) = i ∷ []
+cause_numbers (errors.Overlap j i) = j ∷ i ∷ []
+cause_numbers (errors.Range i) = i ∷ []
+cause_numbers (errors.WritableCode i) = i ∷ []
+cause_numbers (errors.Relocation index kind) = index ∷ kind ∷ []
+cause_numbers other = []
+
+-- numbers, each after a space
+abbrev pub numbers_text : List ℕ → List ℕ
+numbers_text numbers = flat_map (λ n. 32 ∷ decimal n) numbers
+
+abbrev pub numbered_line : List ℕ → List ℕ → List ℕ
+numbered_line name numbers = codes "surf: image " ++ (name ++ (numbers_text numbers ++ 10 ∷ []))
+
+abbrev pub image_line : ElfError → List ℕ
+image_line cause = numbered_line (cause_name cause) (cause_numbers cause)
+
+abbrev pub entry_line : List ℕ
+entry_line = codes "surf: absent entry" ++ 10 ∷ []
 
 abbrev pub absent_line : ℕ → List ℕ
 absent_line at = codes "surf: absent " ++ (hex8_text at ++ 10 ∷ [])
@@ -73,40 +158,48 @@ output_line = codes "surf: output" ++ 10 ∷ []
 abbrev pub memory_line : List ℕ
 memory_line = codes "surf: memory" ++ 10 ∷ []
 
--- for the name and the address of the slice that the words ask for
-abbrev pub ForAsked : List (List ℕ) → (List ℕ → ℕ → Type 0) → Type 0
-ForAsked words P = (name : List ℕ) (at : ℕ) → AsksSlice words name at → P name at
+abbrev pub unsupported_line : ℕ → List ℕ
+unsupported_line at = codes "surf: unsupported " ++ (hex8_text at ++ 10 ∷ [])
 
--- the words ask for no slice
+-- -- The clauses of a request
+
+-- the file was read: it was come to, and neither the shelf nor memory failed
+abbrev pub WasRead : ℕ → Type 0
+WasRead status = (status ≢ 2) × (status ≢ 3) × (status ≢ 7)
+
+-- for the name and the task that the words ask for
+abbrev pub ForAsked : List (List ℕ) → (List ℕ → Task → Type 0) → Type 0
+ForAsked words P = (name : List ℕ) (asked : Task) → Asks words name asked → P name asked
+
+-- the words ask for nothing
 abbrev pub AsksNothing : List (List ℕ) → Type 0
-AsksNothing words = (name : List ℕ) (at : ℕ) → ¬ AsksSlice words name at
-
--- the file has straight code with a node at the address
-abbrev pub HasReply : List ℕ → ℕ → Type 0
-HasReply file at = (instrs : List Instr) × HasCode file instrs × HasNode instrs at
+AsksNothing words = (name : List ℕ) (asked : Task) → ¬ Asks words name asked
 
 -- the reply that is asked for was appended
 abbrev pub WritesReply : List (List ℕ) → (List ℕ → Option (List ℕ)) → Option (List ℕ) → Option (List ℕ) → Type 0
-WritesReply words files old new = ForAsked words (λ name at. IfSome (files name) (λ file. (text : List ℕ) × IsReply file at text × Appends old new text))
+WritesReply words files old new = ForAsked words (λ name asked. IfSome (files name) (λ file. (text : List ℕ) × IsReply file asked text × Appends old new text))
 
 -- whole lines of it were appended, and some beginning of the line that follows
 abbrev pub WritesPart : List (List ℕ) → (List ℕ → Option (List ℕ)) → Option (List ℕ) → Option (List ℕ) → Type 0
-WritesPart words files old new = ForAsked words (λ name at. IfSome (files name) (λ file. (text : List ℕ) × IsReply file at text × AppendsLines old new text))
+WritesPart words files old new = ForAsked words (λ name asked. IfSome (files name) (λ file. (text : List ℕ) × IsReply file asked text × AppendsLines old new text))
 
 -- a status is one of these
 abbrev pub IsStatus : ℕ → Type 0
-IsStatus status = (status ≡ 0) ⊎ ((status ≡ 2) ⊎ ((status ≡ 3) ⊎ ((status ≡ 5) ⊎ ((status ≡ 6) ⊎ ((status ≡ 7) ⊎ (status ≡ 9))))))
+IsStatus status = (status ≡ 0) ⊎ ((status ≡ 2) ⊎ ((status ≡ 3) ⊎ ((status ≡ 4) ⊎ ((status ≡ 5) ⊎ ((status ≡ 6) ⊎ ((status ≡ 7) ⊎ (status ≡ 9)))))))
 
 -- at every status but 0 and 6 the output is as it was
 abbrev pub WritesNothing : ℕ → Option (List ℕ) → Option (List ℕ) → Type 0
 WritesNothing status old new = status ≢ 0 → status ≢ 6 → new ≡ old
 
--- What was appended to the error sink: the status's line or some beginning of it, and nothing at status 0. (The two lines of
--- status 3 stand with their causes.)
-pub record ErrorLines (words : List (List ℕ)) (status : ℕ) (old new : Option (List ℕ)) (before now : ℕ) : Type 0 where
+-- What was appended to the error sink: the line of the status and its cause, or some beginning of it, and nothing at status 0.
+-- (The two lines of status 3 stand with their causes.) Each cause is that of the file, where it is told.
+pub record ErrorLines (words : List (List ℕ)) (files : List ℕ → Option (List ℕ)) (status : ℕ) (old new : Option (List ℕ)) (before now : ℕ) : Type 0 where
   pub silent : status ≡ 0 → new ≡ old
   pub words_told : status ≡ 2 → TellsLine old new before now words_line
-  pub absent_told : status ≡ 5 → ForAsked words (λ name at. TellsLine old new before now (absent_line at))
+  pub image_told : status ≡ 4 → ForAsked words (λ name asked. (cause : ElfError) × IfSome (files name) (λ file. HasNoImage file cause) × TellsLine old new before now (image_line cause))
+  pub absent_told : status ≡ 5 → ForAsked words (λ name asked.
+      (IfSome (files name) HasNoEntry × TellsLine old new before now entry_line)
+      ⊎ ((at : ℕ) × IfSome (files name) (λ file. IsAbsent file asked at) × TellsLine old new before now (absent_line at)))
   pub output_told : status ≡ 6 → TellsLine old new before now output_line
   pub memory_told : status ≡ 7 → TellsLine old new before now memory_line
-  pub unsupported_told : status ≡ 9 → TellsLine old new before now unsupported_line
+  pub unsupported_told : status ≡ 9 → ForAsked words (λ name asked. (at : ℕ) × IfSome (files name) (λ file. IsUnsupported file asked at) × TellsLine old new before now (unsupported_line at))

@@ -1,7 +1,7 @@
 -- That the sets of places are right: a step changes what it writes or forgets and nothing else, and what it writes depends on
 -- what it reads alone.
 use Rattle.std.specs.Prelude.{◌≡◌, ℕ, zero, suc, Bool, false, true}
-use Rattle.surf_prog.specs.ImageMapImage.{Image}
+use Rattle.image_map.specs.declared.image.Image.{Image}
 use Rattle.surf_prog.specs.ImageMapState.{Flags, State}
 use Rattle.surf_prog.specs.Ia32Machine.{Settings}
 use Rattle.surf_prog.specs.Ia32Run.{Occurrence, Happens, Place, InRegister, InFlag, AtByte, is_place, Reads, Writes, Forgets}

@@ -1,32 +1,36 @@
 -- What a reply tells of the runs of its file's code.
 use Rattle.std.specs.Prelude.{◌≡◌, ℕ, false, List, ◌++◌, slice_get, Option, Some, IfSome}
 use Rattle.surf_base.specs.Sink.{Appends}
+use Rattle.image_map.specs.declared.image.Image.{Image}
+use Rattle.elf32.specs.Loading.{Loads}
+use Rattle.surf_prog.specs.declared.words.Task.{Task}
+use Rattle.surf_prog.specs.declared.words.Task.TheVariants as task
 use Rattle.surf_prog.specs.Once.{ForAsked}
-use Rattle.surf_prog.specs.PlainFile.{IsPlain, plain_entry}
 use Rattle.surf_prog.specs.Reply.{address_line}
 use Rattle.surf_prog.specs.Ia32Machine.{Settings}
 use Rattle.surf_prog.specs.Ia32Run.{Occurrence, stands_at, IsRun, Depends}
-use Rattle.surf_prog.specs.StraightRuns.{code_image}
 
 -- the text has the line of this address
 abbrev pub TellsAddress : List ℕ → ℕ → Type 0
 TellsAddress text address = (before : List ℕ) × (after : List ℕ) × (text ≡ before ++ (address_line address ++ after))
 
--- a plain file is entered at its first byte of code
-abbrev pub plain_settings : Settings
-plain_settings = record { entry = plain_entry }
+-- an image is entered where it says
+abbrev pub entered_where : Image → Settings
+entered_where image = record { entry = image.entry }
 
--- Wherever in a run of the file's code an occurrence at the criterion depends on another, the text tells the other's address.
-abbrev pub TellsDependences : List ℕ → ℕ → List ℕ → Type 0
-TellsDependences file at text =
-    (code : List ℕ) → IsPlain file code
-    → (run : List Occurrence) → IsRun (code_image plain_entry code) plain_settings run
+-- Wherever in a run of the file's image an occurrence at the criterion depends on another, the text tells the other's address.
+-- (A list has no criterion.)
+abbrev pub TellsDependences : List ℕ → Task → List ℕ → Type 0
+TellsDependences file (task.Slice at) text =
+    (image : Image) → Loads file image
+    → (run : List Occurrence) → IsRun image (entered_where image) run
     → (j i : ℕ) (criterion source : Occurrence)
     → slice_get run j ≡ Some criterion → stands_at criterion ≡ at → slice_get run i ≡ Some source
-    → Depends (code_image plain_entry code) plain_settings false run j i
+    → Depends image (entered_where image) false run j i
     → TellsAddress text (stands_at source)
+TellsDependences file (task.List from steps) text = Unit {0}
 
--- A slice was asked for, and where the file is told, a text was appended that tells the dependences of the file's code.
+-- What was asked for was appended, and where the file is told and a slice was asked for, it tells the dependences of the file's runs.
 abbrev pub WritesDependences : List (List ℕ) → (List ℕ → Option (List ℕ)) → Option (List ℕ) → Option (List ℕ) → Type 0
 WritesDependences words files old new =
-    ForAsked words (λ name at. IfSome (files name) (λ file. (text : List ℕ) × TellsDependences file at text × Appends old new text))
+    ForAsked words (λ name asked. IfSome (files name) (λ file. (text : List ℕ) × TellsDependences file asked text × Appends old new text))

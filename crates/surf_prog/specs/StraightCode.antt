@@ -1,6 +1,6 @@
--- Code without a branch: what it is as bytes, the instructions that it lists, and their flow graph. The project's own;
--- the encodings are those of the Intel SDM, volume 2.
-use Rattle.std.specs.Prelude.{◌≡◌, ◌==◌, ◌&&◌, ◌||◌, ℕ, ◌+◌, ◌≤◌, nat_le, Bool, true, false, List, [], ◌∷◌, ◌++◌, Option, Some, None, length, drop, map, filter, IsTrue}
+-- Code without a branch: what it is as bytes, the instructions that it lists, where other code stops being such, and the flow
+-- graph of the instructions. The project's own; the encodings are those of the Intel SDM, volume 2.
+use Rattle.std.specs.Prelude.{◌≡◌, ◌⊎◌, ◌==◌, ◌&&◌, ◌||◌, ℕ, zero, suc, ◌+◌, ◌≤◌, nat_le, Bool, true, false, List, [], ◌∷◌, ◌++◌, Option, Some, None, length, drop, map, filter, IsTrue}
 use Rattle.std.specs.Int.{bit_at}
 use Rattle.ia32_types.specs.declared.Reg.TheVariants as reg
 use Rattle.ia32_types.specs.declared.Operand.{Operand}
@@ -63,6 +63,33 @@ pub record IsStraight (entry : ℕ) (code : List ℕ) (instrs : List Instr) : Ty
 -- These are the instructions of some straight code.
 abbrev pub AreStraight : List Instr → Type 0
 AreStraight instrs = (entry : ℕ) × (code : List ℕ) × IsStraight entry code instrs
+
+-- A move or an addition of registers other than ESP stands at an address; from there on the code is this.
+pub record StepStands (at : ℕ) (code : List ℕ) (i : Instr) : Type 0 where
+  pub row : IsTrue (is_move_or_add code)
+  pub begins : Begins code at i
+  pub no_esp : names_esp i ≡ false
+
+-- a return stands there
+pub record ReturnStands (at : ℕ) (code : List ℕ) (i : Instr) : Type 0 where
+  pub row : IsTrue (is_return code)
+  pub begins : Begins code at i
+
+-- neither stands there
+pub record NoRowStands (at : ℕ) (code : List ℕ) : Type 0 where
+  pub no_step : (i : Instr) → ¬ StepStands at code i
+  pub no_return : (i : Instr) → ¬ ReturnStands at code i
+
+-- Among the places of the first n instructions from an address on, the first at which neither stands; where there is none
+-- among them, the place behind them.
+unfoldable pub StopsWithin : ℕ → ℕ → List ℕ → ℕ → Type 0
+StopsWithin zero at code stop = stop ≡ at
+StopsWithin (suc n) at code stop = (NoRowStands at code × (stop ≡ at)) ⊎ ((i : Instr) × StepStands at code i × StopsWithin n (at + i.len) (drop i.len code) stop)
+
+-- Where the code from the entry on stops being straight: the first place at which neither stands, and after as many
+-- instructions as straight code may have the place behind them.
+unfoldable pub StopsAt : ℕ → List ℕ → ℕ → Type 0
+StopsAt entry code stop = StopsWithin most_instructions entry code stop
 
 -- the places of a set of registers and a set of flags, each given by its bits
 abbrev pub has_bit : ℕ → ℕ → Bool

@@ -1,27 +1,17 @@
 -- What the slice of straight code is good for: it lists every instruction on which an occurrence of a run depends.
-use Rattle.std.specs.Prelude.{◌≡◌, ◌≢◌, ℕ, ◌+◌, ◌<◌, ◌≤◌, ◌^◌, Bool, true, List, [], ◌∷◌, length, slice_get, slice_index, Some, IsTrue}
+use Rattle.std.specs.Prelude.{◌≡◌, ◌≢◌, ℕ, ◌<◌, ◌^◌, Bool, List, length, slice_get, Some, IsTrue}
 use Rattle.ia32_types.specs.declared.Instr.{Instr}
+use Rattle.image_map.specs.declared.image.Image.{Image}
+use Rattle.image_map.specs.Queries.{byte_at}
+use Rattle.image_map.specs.Whole.{IsImage}
 use Rattle.surf_prog.specs.FlowGraph.{esp_place}
 use Rattle.surf_prog.specs.DepGraph.{DataEdge}
 use Rattle.surf_prog.specs.Slicer.{IsSlice}
 use Rattle.surf_prog.specs.StraightCode.{IsStraight, straight_graph}
-use Rattle.surf_prog.specs.ImageMapImage.{Segment, Image, PF_X, PF_R, byte_at, is_code}
+use Rattle.surf_prog.specs.Code.{HoldsCode}
 use Rattle.surf_prog.specs.ImageMapState.{State}
-use Rattle.surf_prog.specs.Ia32Machine.{Settings, Executes, IsStart, image_high, stack_low}
+use Rattle.surf_prog.specs.Ia32Machine.{Settings, Executes, IsStart}
 use Rattle.surf_prog.specs.Ia32Run.{Occurrence, stands_at, Goes, IsRun, IsComplete, Place, DataDependence, ListsDependences}
-
--- the image of one segment, which may be read and executed
-abbrev pub code_segment : ℕ → List ℕ → Segment
-code_segment start code = record { start = start; bytes = code; flags = PF_R + PF_X }
-
-abbrev pub code_image : ℕ → List ℕ → Image
-code_image start code = record { segments = code_segment start code ∷ []; any_bytes = [] }
-
--- the image has this code from the entry on, below the end of the 32-bit addresses
-pub record HoldsCode (image : Image) (entry : ℕ) (code : List ℕ) : Type 0 where
-  pub fits : entry + length code < 2 ^ 32
-  pub is_code : (k : ℕ) → k < length code → is_code image (entry + k) ≡ true
-  pub known : (k : ℕ) → k < length code → byte_at image (entry + k) ≡ Some (slice_index code k)
 
 -- an occurrence executes this instruction where it stands
 pub record Executed (o : Occurrence) (i : Instr) : Type 0 where
@@ -40,6 +30,14 @@ abbrev pub RunsExecuteInOrder : Type 0
 RunsExecuteInOrder =
     OfStraightRuns (λ instrs run. (k : ℕ) (o : Occurrence) → slice_get run k ≡ Some o → (i : Instr) × (slice_get instrs k ≡ Some i) × Executed o i)
 
+-- Each image of bytes has a start, wherever it is entered.
+abbrev pub ImagesStart : Type 0
+ImagesStart =
+    (image : Image) (settings : Settings)
+    → IsImage image → settings.entry < 2 ^ 32
+    → ((a byte : ℕ) → byte_at image a ≡ Some byte → byte < 256)
+    → (start : State) × IsStart image settings start
+
 -- From each start of straight code some run executes all its instructions and is complete.
 abbrev pub StartsComplete : Type 0
 StartsComplete =
@@ -47,14 +45,6 @@ StartsComplete =
     → IsStraight settings.entry code instrs → HoldsCode image settings.entry code
     → (start : State) → IsStart image settings start
     → (run : List Occurrence) × Goes image settings start run × IsComplete run × (length run ≡ length instrs)
-
--- The image of some code has a start, wherever it is entered: the code and its entry lie among the addresses of images.
-abbrev pub CodeStarts : Type 0
-CodeStarts =
-    (first : ℕ) (code : List ℕ) (settings : Settings)
-    → first + length code ≤ image_high → settings.entry < image_high
-    → ((k byte : ℕ) → slice_get code k ≡ Some byte → byte < 256)
-    → (start : State) × IsStart (code_image first code) settings start
 
 -- Each place that an occurrence reads was last written by one from whose node an edge comes: occurrence k is at node k. With
 -- skip_sp the edge isn't by ESP.
@@ -71,11 +61,3 @@ SlicesListDependences =
     → IsStraight settings.entry code instrs → HoldsCode image settings.entry code
     → (skip_sp : Bool) (at : ℕ) (addresses : List ℕ) → IsSlice (straight_graph instrs) at skip_sp addresses
     → ListsDependences image settings skip_sp at addresses
-
--- The same for the image of this code alone, entered at its beginning. It lies below the stack, or it has no run.
-abbrev pub CodeSlicesListDependences : Type 0
-CodeSlicesListDependences =
-    (settings : Settings) (code : List ℕ) (instrs : List Instr)
-    → settings.entry < stack_low → IsStraight settings.entry code instrs
-    → (skip_sp : Bool) (at : ℕ) (addresses : List ℕ) → IsSlice (straight_graph instrs) at skip_sp addresses
-    → ListsDependences (code_image settings.entry code) settings skip_sp at addresses

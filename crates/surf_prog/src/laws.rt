@@ -2,7 +2,7 @@
 ghost use Rattle.surf_prog.specs.Ia32Machine.{StartsAreWhole};
 ghost use Rattle.surf_prog.specs.Ia32Run.{BeginningsAreRuns};
 ghost use Rattle.surf_prog.specs.RunPlaces.{ChangesOnlyWrites, WritesFollowReads};
-ghost use Rattle.surf_prog.specs.StraightRuns.{CodeStarts, StartsComplete, RunsExecuteInOrder, ReadsHaveEdges, SlicesListDependences, CodeSlicesListDependences};
+ghost use Rattle.surf_prog.specs.StraightRuns.{ImagesStart, StartsComplete, RunsExecuteInOrder, ReadsHaveEdges, SlicesListDependences};
 
 /// The laws of runs: each start is whole, each beginning of a run is a run, an occurrence changes what
 /// it writes or forgets and nothing else, and what it writes depends on what it reads alone.
@@ -13,14 +13,14 @@ pub fn run_laws()
     ensures beginnings { BeginningsAreRuns }
 {}
 
-/// The laws of straight code's runs. It has starts, and from each one runs to its end. Each executes
-/// the instructions in order, what an occurrence reads was last written where an edge comes from, and
-/// a slice lists the address of every occurrence on which one at its criterion depends.
+/// The laws of straight code's runs. Each image has a start, and from each start straight code runs to
+/// its end. A run executes the instructions in order, what an occurrence reads was last written where an
+/// edge comes from, and a slice lists the address of every occurrence on which one at its criterion
+/// depends.
 pub fn straight_run_laws()
-    ensures starts { CodeStarts }
+    ensures starts { ImagesStart }
     ensures complete { StartsComplete }
     ensures order { RunsExecuteInOrder }
     ensures edges { ReadsHaveEdges }
     ensures slices { SlicesListDependences }
-    ensures code_slices { CodeSlicesListDependences }
 {}

@@ -2,8 +2,11 @@
 #![tactic(auto)]
 
 mod adapters;
+mod code;
+mod fetch;
 mod laws;
-mod plain_file;
+mod list;
+mod refusal;
 mod request;
 mod slice;
 mod straight_code;

@@ -1,22 +1,29 @@
 // One request, from the words to the sinks.
-ghost use Rattle.std.specs.Prelude.{◌≡◌, ◌≤◌, ◌⊎◌, ◌↔◌, ◌++◌, length, map, IfSome, OnOk, OnErr, ◌==◌};
+ghost use Rattle.std.specs.Prelude.{◌≡◌, ◌≤◌, ◌⊎◌, ◌↔◌, ℕ, length, map, IfOk, IfErr, IfSome, ◌==◌};
 ghost use Rattle.std.specs.List.{list_any};
 ghost use Rattle.std.specs.String.{string_bytes};
+ghost use Rattle.image_map.specs.Whole.{IsImage};
+ghost use Rattle.elf32.specs.declared.error.ElfError.{ElfError as Cause};
+ghost use Rattle.elf32.specs.Loading.{Loads};
 ghost use Rattle.surf_base.specs.Faults.{Rose};
 ghost use Rattle.surf_base.specs.Shelf.{IsLonger};
-ghost use Rattle.surf_base.specs.Sink.{Appends, AppendsPart};
-ghost use Rattle.surf_prog.specs.Once.{image_limit, ForAsked, AsksNothing, HasReply, WritesReply, WritesPart, IsUnsupported, IsAbsent, WasRead, IsStatus, WritesNothing, TellsLine, shelf_line, too_long_line, ErrorLines};
+ghost use Rattle.surf_prog.specs.declared.words.Task.TheVariants as kinds;
+ghost use Rattle.surf_prog.specs.Once.{image_limit, first_place as place_of_first, ForAsked, AsksNothing, HasReply, HasNoImage, HasNoEntry, WritesReply, WritesPart, IsUnsupported, IsAbsent, WasRead, IsStatus, WritesNothing, TellsLine, shelf_line, too_long_line, ErrorLines};
 ghost use Rattle.surf_prog.specs.RunReply.{WritesDependences};
-ghost use Rattle.surf_prog.specs.Answer.{Replies, Answers, line_of, status_of};
+ghost use Rattle.surf_prog.specs.Answer.{Replies, RepliesFrom, IsNoImage, Answers};
 
-use crate::plain_file::{PLAIN_ENTRY, plain_code};
+use crate::code::code_of;
+use crate::list::listing;
+use crate::refusal::{Refusal, complain, status};
 use crate::slice::backward;
-use crate::straight_code::straight_code;
+use crate::straight_code::{StraightCode, straight_code};
 use crate::text::slice_text;
-use crate::words::slice_asked;
+use crate::words::{Task, asked};
+use elf32::{ElfError, read_image};
 use ia32_types::Instr;
+use image_map::Image;
 use std::alloc::{AllocError, Global};
-use surf_base::{Shelf, ShelfError, Sink, SinkFailed, hex8, write_lines};
+use surf_base::{Shelf, ShelfError, Sink, write_lines};
 
 /// The greatest length of a file that is read, in bytes.
 const IMAGE_LIMIT: u32 = 16_777_216;
@@ -26,11 +33,17 @@ const ROUND: u32 = 0;
 
 const LANE: u32 = 2;
 
-// Why there is no reply to a slice in a file.
+// Why a file doesn't answer what is asked.
 #[derive(Clone, Copy)]
 enum NoReply {
-    Unsupported,
-    Absent,
+    /// It has no image: this check fails first.
+    Image(ElfError),
+    /// The entry isn't code.
+    Entry,
+    /// The code isn't straight from this place on.
+    Unsupported(u32),
+    /// Nothing stands at the address that was named.
+    Absent(u32),
     Memory,
 }
 
@@ -45,18 +58,6 @@ impl From<AllocError> for NoReply {
     }
 }
 
-/// Why a request wasn't answered.
-#[derive(Clone, Copy)]
-enum Refusal<'a> {
-    Words,
-    Shelf(&'a str),
-    TooLong(&'a str),
-    Unsupported,
-    Absent(u32),
-    Output,
-    Memory,
-}
-
 // An instruction stands at the address.
 fn stands_at(instrs: &[Instr], at: u32) -> bool
     ensures { result ≡ list_any (λ i. i.at == at) instrs.now }
@@ -64,22 +65,93 @@ fn stands_at(instrs: &[Instr], at: u32) -> bool
     instrs.iter().any(|instr| instr.at == at)
 }
 
-// The reply to a slice in a file.
-fn reply(alloc: Global, file: &[u8], at: u32) -> Result<Vec<u8>, NoReply>
-    requires { length file.now ≤ image_limit }
-    ensures { Replies file.now at result }
+// The reply to a slice in an image.
+fn slice_reply(alloc: Global, image: &Image, at: u32) -> Result<Vec<u8>, NoReply>
+    requires { IsImage image.now }
+    ensures { RepliesFrom image.now (kinds.Slice at) result }
 {
-    let Some(code) = plain_code(file) else {
-        return Err(NoReply::Unsupported);
-    };
-    let Some(instrs) = straight_code(alloc, PLAIN_ENTRY, code)? else {
-        return Err(NoReply::Unsupported);
+    let code = code_of(alloc, image, image.entry)?;
+    let instrs = match straight_code(alloc, image.entry, &code)? {
+        StraightCode::Stops(place) => return Err(NoReply::Unsupported(place)),
+        StraightCode::Straight(instrs) => instrs,
     };
     if !stands_at(&instrs, at) {
-        return Err(NoReply::Absent);
+        return Err(NoReply::Absent(at));
     }
     let addresses = backward(alloc, &instrs, at)?;
     Ok(slice_text(alloc, at, ROUND, LANE, &addresses, 0)?)
+}
+
+// Where a list begins.
+fn first_place(image: &Image, from: Option<u32>) -> u32
+    ensures { result ≡ place_of_first image.now from }
+{
+    match from {
+        Some(at) => at,
+        None => image.entry,
+    }
+}
+
+// The list of an image's instructions.
+fn list_reply(
+    alloc: Global,
+    image: &Image,
+    from: Option<u32>,
+    steps: u32,
+) -> Result<Vec<u8>, NoReply>
+    ensures { RepliesFrom image.now (kinds.List from steps) result }
+{
+    let place = first_place(image, from);
+    if !image.is_code(place) {
+        return Err(NoReply::Absent(place));
+    }
+    Ok(listing(alloc, image, place, steps)?)
+}
+
+// The image of a file.
+fn image_of(alloc: Global, file: &[u8]) -> Result<Image, NoReply>
+    requires { length file.now ≤ image_limit }
+    ensures loads { IfOk result (λ image. Loads file.now image) }
+    ensures image { IfOk result (λ image. IsImage image) }
+    ensures cause { IfErr result (λ none. IsNoImage file.now none) }
+{
+    match read_image(alloc, file) {
+        Ok(image) => Ok(image),
+        Err(ElfError::Memory) => Err(NoReply::Memory),
+        Err(cause) => Err(NoReply::Image(cause)),
+    }
+}
+
+// The reply to what is asked of a file.
+fn reply(alloc: Global, file: &[u8], task: Task) -> Result<Vec<u8>, NoReply>
+    requires { length file.now ≤ image_limit }
+    ensures { Replies file.now task result }
+{
+    let image = image_of(alloc, file)?;
+    if !image.is_code(image.entry) {
+        return Err(NoReply::Entry);
+    }
+    match task {
+        Task::Slice { at } => slice_reply(alloc, &image, at),
+        Task::List { from, steps } => list_reply(alloc, &image, from, steps),
+    }
+}
+
+impl From<NoReply> for Refusal<'_> {
+    ghost use Rattle.std.specs.Prelude.{◌≡◌};
+    ghost use Rattle.surf_prog.specs.Answer.{refusal_of};
+
+    ghost from_gives = { λ none refusal. refusal ≡ refusal_of none };
+
+    fn from(none: NoReply) -> Self {
+        match none {
+            NoReply::Image(cause) => Refusal::Image(cause),
+            NoReply::Entry => Refusal::Entry,
+            NoReply::Unsupported(at) => Refusal::Unsupported(at),
+            NoReply::Absent(at) => Refusal::Absent(at),
+            NoReply::Memory => Refusal::Memory,
+        }
+    }
 }
 
 // Answers the request, up to the output.
@@ -92,76 +164,19 @@ fn answer<'a, F: Shelf, K: Sink>(
     ensures { Answers (map string_bytes words.now) (F.file shelf.old) (F.faults shelf.old) (F.faults shelf.new)
         (K.written out.old) (K.written out.new) (K.faults out.old) (K.faults out.new) result }
 {
-    let Some(asked) = slice_asked(words) else {
+    let Some(request) = asked(words) else {
         return Err(Refusal::Words);
     };
-    let file = match shelf.read(alloc, asked.name, IMAGE_LIMIT) {
+    let file = match shelf.read(alloc, request.name, IMAGE_LIMIT) {
         Ok(file) => file,
-        Err(ShelfError::Failed) => return Err(Refusal::Shelf(asked.name)),
-        Err(ShelfError::TooLong(_)) => return Err(Refusal::TooLong(asked.name)),
+        Err(ShelfError::Failed) => return Err(Refusal::Shelf(request.name)),
+        Err(ShelfError::TooLong(_)) => return Err(Refusal::TooLong(request.name)),
         Err(ShelfError::Memory) => return Err(Refusal::Memory),
     };
-    let text = match reply(alloc, &file, asked.at) {
-        Ok(text) => text,
-        Err(NoReply::Unsupported) => return Err(Refusal::Unsupported),
-        Err(NoReply::Absent) => return Err(Refusal::Absent(asked.at)),
-        Err(NoReply::Memory) => return Err(Refusal::Memory),
-    };
+    let text = reply(alloc, &file, request.task)?;
     match write_lines(&text, out) {
         Ok(()) => Ok(()),
         Err(_) => Err(Refusal::Output),
-    }
-}
-
-// Writes a line in three parts, up to a fault.
-fn write_parts<E: Sink>(
-    err: &mut E,
-    front: &[u8],
-    middle: &[u8],
-    back: &[u8],
-) -> Result<(), SinkFailed>
-    ensures ok { OnOk result (Appends (E.written err.old) (E.written err.new) (front.now ++ (middle.now ++ back.now))) }
-    ensures part { OnErr result (AppendsPart (E.written err.old) (E.written err.new) (front.now ++ (middle.now ++ back.now))) }
-    ensures cause { OnErr result (Rose (E.faults err.old) (E.faults err.new)) }
-{
-    err.write(front)?;
-    err.write(middle)?;
-    err.write(back)
-}
-
-// Tells a line in three parts, or some beginning of it.
-fn tell<E: Sink>(err: &mut E, front: &[u8], middle: &[u8], back: &[u8])
-    ensures { TellsLine (E.written err.old) (E.written err.new) (E.faults err.old) (E.faults err.new) (front.now ++ (middle.now ++ back.now)) }
-{
-    let _ = write_parts(err, front, middle, back);
-}
-
-// Tells of a refusal.
-fn complain<E: Sink>(refusal: &Refusal<'_>, err: &mut E)
-    ensures { TellsLine (E.written err.old) (E.written err.new) (E.faults err.old) (E.faults err.new) (line_of refusal.now) }
-{
-    match refusal {
-        Refusal::Words => tell(err, b"surf: words", b"", b"\n"),
-        Refusal::Shelf(name) => tell(err, b"surf: shelf ", name.as_bytes(), b"\n"),
-        Refusal::TooLong(name) => tell(err, b"surf: too long ", name.as_bytes(), b" 16777216\n"),
-        Refusal::Unsupported => tell(err, b"surf: unsupported ", b"00000000", b"\n"),
-        Refusal::Absent(at) => tell(err, b"surf: absent ", &hex8(*at), b"\n"),
-        Refusal::Output => tell(err, b"surf: output", b"", b"\n"),
-        Refusal::Memory => tell(err, b"surf: memory", b"", b"\n"),
-    }
-}
-
-// The status of a refusal.
-fn status(refusal: &Refusal<'_>) -> u8
-    ensures { result ≡ status_of refusal.now }
-{
-    match refusal {
-        Refusal::Words => 2,
-        Refusal::Shelf(_) | Refusal::TooLong(_) => 3,
-        Refusal::Absent(_) => 5,
-        Refusal::Output => 6,
-        Refusal::Memory => 7,
-        Refusal::Unsupported => 9,
     }
 }
 
@@ -179,23 +194,26 @@ pub fn once<F: Shelf, K: Sink, E: Sink>(
     // At status 0 the whole reply was appended.
     ensures text { result ≡ 0 → WritesReply (map string_bytes words.now) (F.file shelf.old) (K.written out.old) (K.written out.new) }
 
-    // And wherever in a run of the file's code an occurrence at the criterion depends on another, the reply has that one's address.
+    // And wherever in a run of the file's image an occurrence at the criterion depends on another, the reply to a slice has that one's address.
     ensures dependences { result ≡ 0 → WritesDependences (map string_bytes words.now) (F.file shelf.old) (K.written out.old) (K.written out.new) }
 
-    // 2 exactly where the words ask for no slice.
+    // 2 exactly where the words ask for nothing.
     ensures bad_words { (result ≡ 2) ↔ AsksNothing (map string_bytes words.now) }
 
     // 3 only where the shelf's count for the name rose, or the file is longer than the limit.
-    ensures shelf { result ≡ 3 → ForAsked (map string_bytes words.now) (λ name at.
+    ensures shelf { result ≡ 3 → ForAsked (map string_bytes words.now) (λ name asked.
         (Rose (F.faults shelf.old name) (F.faults shelf.new name) × TellsLine (E.written err.old) (E.written err.new) (E.faults err.old) (E.faults err.new) (shelf_line name))
         ⊎ (IsLonger (F.file shelf.old name) image_limit × TellsLine (E.written err.old) (E.written err.new) (E.faults err.old) (E.faults err.new) (too_long_line name))) }
-    ensures within { WasRead result → ForAsked (map string_bytes words.now) (λ name at. IfSome (F.file shelf.old name) (λ file. length file ≤ image_limit)) }
+    ensures within { WasRead result → ForAsked (map string_bytes words.now) (λ name asked. IfSome (F.file shelf.old name) (λ file. length file ≤ image_limit)) }
 
-    // 9 exactly where the file was read and isn't plain, or its code isn't straight.
-    ensures unsupported { WasRead result → ForAsked (map string_bytes words.now) (λ name at. IfSome (F.file shelf.old name) (λ file. (result ≡ 9) ↔ IsUnsupported file)) }
+    // 4 exactly where the file was read and some check of it fails.
+    ensures image { WasRead result → ForAsked (map string_bytes words.now) (λ name asked. IfSome (F.file shelf.old name) (λ file. (result ≡ 4) ↔ ((cause : Cause) × HasNoImage file cause))) }
 
-    // 5 exactly where its code is straight, and no node has the address.
-    ensures absent { WasRead result → ForAsked (map string_bytes words.now) (λ name at. IfSome (F.file shelf.old name) (λ file. (result ≡ 5) ↔ IsAbsent file at)) }
+    // 5 exactly where it has an image and the entry isn't code; or where it is, and nothing stands at the address that is named.
+    ensures absent { WasRead result → ForAsked (map string_bytes words.now) (λ name asked. IfSome (F.file shelf.old name) (λ file. (result ≡ 5) ↔ (HasNoEntry file ⊎ ((at : ℕ) × IsAbsent file asked at)))) }
+
+    // 9 exactly where the code from the entry on of a file that was read isn't straight, and a slice is asked.
+    ensures unsupported { WasRead result → ForAsked (map string_bytes words.now) (λ name asked. IfSome (F.file shelf.old name) (λ file. (result ≡ 9) ↔ ((at : ℕ) × IsUnsupported file asked at))) }
 
     // 6 only where the output's count rose, and some beginning of the reply was appended.
     ensures output { result ≡ 6 → Rose (K.faults out.old) (K.faults out.new) }
@@ -204,13 +222,13 @@ pub fn once<F: Shelf, K: Sink, E: Sink>(
     // Nothing is written before the last step.
     ensures untouched { WritesNothing result (K.written out.old) (K.written out.new) }
 
-    // A slice that is there is answered unless memory is wanting.
-    ensures complete { ForAsked (map string_bytes words.now) (λ name at. IfSome (F.file shelf.old name) (λ file.
-        length file ≤ image_limit → HasReply file at → ¬ Rose (F.faults shelf.old name) (F.faults shelf.new name) → ¬ Rose (K.faults out.old) (K.faults out.new)
+    // A reply that there is comes unless memory is wanting.
+    ensures complete { ForAsked (map string_bytes words.now) (λ name asked. IfSome (F.file shelf.old name) (λ file.
+        length file ≤ image_limit → HasReply file asked → ¬ Rose (F.faults shelf.old name) (F.faults shelf.new name) → ¬ Rose (K.faults out.old) (K.faults out.new)
         → (result ≡ 0) ⊎ (result ≡ 7))) }
 
     // The line of the status, or some beginning of it where the count of `err` rose.
-    ensures error_line { ErrorLines (map string_bytes words.now) result (E.written err.old) (E.written err.new) (E.faults err.old) (E.faults err.new) }
+    ensures error_line { ErrorLines (map string_bytes words.now) (F.file shelf.old) result (E.written err.old) (E.written err.new) (E.faults err.old) (E.faults err.new) }
 {
     match answer(alloc, words, shelf, out) {
         Ok(()) => 0,

@@ -1,8 +1,7 @@
 // Code without a branch, as its instructions.
-ghost use Rattle.std.specs.Prelude.{◌≡◌, ◌<◌, ◌+◌, ◌^◌, List, length, MatchOption, IfOk};
-ghost use Rattle.ia32_types.specs.declared.Instr.{Instr};
-ghost use Rattle.surf_prog.specs.StraightCode.{is_move_or_add as move_or_add, is_return as return_row, is_esp as esp_operand, names_esp as esp_named, IsStraight};
-ghost use Rattle.surf_prog.specs.Stretch.{Holds, Takes};
+ghost use Rattle.std.specs.Prelude.{◌≡◌, ◌<◌, ◌+◌, ◌^◌, length, IfOk};
+ghost use Rattle.surf_prog.specs.StraightCode.{is_move_or_add as move_or_add, is_return as return_row, is_esp as esp_operand, names_esp as esp_named};
+ghost use Rattle.surf_prog.specs.Stretch.{Holds, Takes, IsFoundIn};
 
 use ia32_decode::decode;
 use ia32_types::{Instr, Operand, Reg};
@@ -10,6 +9,15 @@ use std::alloc::{AllocError, Global};
 
 /// The greatest number of instructions up to the return.
 pub const MOST_INSTRUCTIONS: usize = 4096;
+
+/// What the code from an entry on is.
+#[derive(Drop)]
+pub enum StraightCode {
+    /// Its instructions up to the return.
+    Straight(Vec<Instr>),
+    /// The first place at which it isn't straight.
+    Stops(u32),
+}
 
 // What stands at a place of straight code.
 #[derive(Clone, Copy)]
@@ -99,27 +107,27 @@ fn take_one(instrs: &mut Vec<Instr>, code: &[u8], at: u32) -> Result<Taken, Allo
     }
 }
 
-/// The instructions of straight code up to its return, if the bytes from the entry on are straight code.
-pub fn straight_code(
-    alloc: Global,
-    entry: u32,
-    code: &[u8],
-) -> Result<Option<Vec<Instr>>, AllocError>
+/// The instructions of straight code up to its return, or the place where the code from the entry
+/// on stops being straight.
+pub fn straight_code(alloc: Global, entry: u32, code: &[u8]) -> Result<StraightCode, AllocError>
     requires { entry + length code.now < 2 ^ 32 }
-    ensures { IfOk result (λ found. MatchOption found ((is : List Instr) → ¬ IsStraight entry code.now is) (λ is. IsStraight entry code.now is.items)) }
+    ensures { IfOk result (λ found. IsFoundIn entry code.now found) }
 {
     let mut instrs = Vec::new(alloc);
     let mut at = entry;
     let mut rest = code;
     'places: while instrs.len() < MOST_INSTRUCTIONS {
         match take_one(&mut instrs, rest, at)? {
-            Taken::Nothing => return Ok(None),
-            Taken::Return => return Ok(Some(instrs)),
+            Taken::Nothing => return Ok(StraightCode::Stops(at)),
+            Taken::Return => return Ok(StraightCode::Straight(instrs)),
             Taken::Step(len) => {
                 at += u32::from(len);
                 rest = &rest[usize::from(len)..];
             }
         }
     }
-    Ok(None)
+    Ok(StraightCode::Stops(at))
 }
+
+#[cfg(test)]
+mod tests;

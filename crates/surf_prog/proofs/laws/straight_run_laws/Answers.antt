@@ -1,8 +1,8 @@
 use Rattle.surf_prog.proofs.laws.straight_run_laws.Goals as goal
-use Rattle.surf_prog.proofs.StraightStart.{code_starts}
+use Rattle.surf_prog.proofs.StraightStart.{images_start}
 use Rattle.surf_prog.proofs.StraightCompletes.{starts_complete}
-use Rattle.surf_prog.proofs.StraightLaw.{runs_execute_in_order, reads_have_edges, slices_list_dependences, code_slices_list_dependences}
+use Rattle.surf_prog.proofs.StraightLaw.{runs_execute_in_order, reads_have_edges, slices_list_dependences}
 
 pub returns : goal.returns
 returns c =
-    record { starts = code_starts; complete = starts_complete; order = runs_execute_in_order; edges = reads_have_edges; slices = slices_list_dependences; code_slices = code_slices_list_dependences }
+    record { starts = images_start; complete = starts_complete; order = runs_execute_in_order; edges = reads_have_edges; slices = slices_list_dependences }

@@ -1,7 +1,7 @@
 use Rattle.std.proofs.Common.{refl, map, Ok, Err, arith}
 use Rattle.std.specs.String.{string_bytes}
 use Rattle.surf_prog.specs.Once.{TellsLine}
-use Rattle.surf_prog.proofs.RequestLaws.{statuses_hold, text_holds, bad_words_hold, shelf_holds, within_holds, unsupported_holds, absent_holds, output_holds, part_holds, untouched_holds, complete_holds, silent_lines, told_lines}
+use Rattle.surf_prog.proofs.RequestLaws.{statuses_hold, text_holds, bad_words_hold, shelf_holds, within_holds, image_holds, absent_holds, unsupported_holds, output_holds, part_holds, untouched_holds, complete_holds, silent_lines, told_lines}
 use Rattle.surf_prog.proofs.RunReply.{writes_dependences}
 use Rattle.surf_prog.proofs.request.once.Goals as goal
 
@@ -24,8 +24,9 @@ returns-in-Ok g c =
       bad_words = bad_words_hold words files before now old new faults faults_now r 0 refl ended;
       shelf = λ three. absurd (omega arith);
       within = within_holds words files before now old new faults faults_now r 0 refl ended;
-      unsupported = unsupported_holds words files before now old new faults faults_now r 0 refl ended;
+      image = image_holds words files before now old new faults faults_now r 0 refl ended;
       absent = absent_holds words files before now old new faults faults_now r 0 refl ended;
+      unsupported = unsupported_holds words files before now old new faults faults_now r 0 refl ended;
       output = λ six. absurd (omega arith);
       part = λ six. absurd (omega arith);
       untouched = untouched_holds words files before now old new faults faults_now r 0 refl ended;
@@ -59,8 +60,9 @@ returns-in-Err g c =
       bad_words = bad_words_hold words files before now old new faults faults_now r status is ended;
       shelf = shelf_holds words files before now old new faults faults_now e status (TellsLine err err_now err_faults err_faults_now) is ended c.complain.ensures;
       within = within_holds words files before now old new faults faults_now r status is ended;
-      unsupported = unsupported_holds words files before now old new faults faults_now r status is ended;
+      image = image_holds words files before now old new faults faults_now r status is ended;
       absent = absent_holds words files before now old new faults faults_now r status is ended;
+      unsupported = unsupported_holds words files before now old new faults faults_now r status is ended;
       output = output_holds words files before now old new faults faults_now e status is ended;
       part = part_holds words files before now old new faults faults_now e status is ended;
       untouched = untouched_holds words files before now old new faults faults_now r status is ended;

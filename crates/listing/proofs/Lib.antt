@@ -1,3 +1,0 @@
-pub mod OneBegins
-pub mod FetchLaws
-pub mod ListingLaws

@@ -1,5 +1,0 @@
-use Rattle.std.proofs.Common.{arith}
-use Rattle.listing.proofs.list.standing.Goals as goal
-
-pub returns-then-at-clause-stands : goal.returns-then-at-clause-stands
-returns-then-at-clause-stands c = λ i. (λ e. (omega arith, (c.fetched.ensures i).0 e), λ stands. (c.fetched.ensures i).1 stands.1)

@@ -1,3 +1,0 @@
-pub mod Fetch
-pub mod Listing
-pub mod Code

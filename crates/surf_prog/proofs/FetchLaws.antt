@@ -1,0 +1,165 @@
+-- Laws of the code of an image, read byte by byte.
+use Rattle.std.proofs.Common.{◌≡◌, ◌↔◌, ◌⊎◌, inl, inr, ⊎_elim, ℕ, zero, suc, ◌+◌, ◌-◌, ◌<◌, ◌≤◌, List, [], ◌∷◌, ◌++◌, length, take, drop, Option, Some, None, refl, sym, ◌∙◌, ap, subst, append_assoc, length-append, arith}
+use Rattle.std.proofs.lemmas.List.{append-nil, take_at, take-append-drop}
+use Rattle.std.proofs.lemmas.Bool.{false≢true}
+use Rattle.std.specs.Prelude.{◌^◌, Bool, true, false, ◌&&◌, if◌then◌else◌, nat_le, nat_lt, slice_index, Result, Ok, Err}
+use Rattle.std.specs.Option.{option_map_or}
+use borrow.Author.Tests.{leb-true, ltb-true}
+use Rattle.image_map.specs.declared.image.Image.{Image}
+use Rattle.image_map.specs.declared.image.Segment.{Segment}
+use Rattle.image_map.specs.declared.image.TheConstants.{PF_X}
+use Rattle.image_map.specs.Memory.{holds, has_flag, segment_at, is_in}
+use Rattle.image_map.specs.Queries.{byte_at, is_code}
+use Rattle.image_map.specs.Whole.{IsPlaced, ArePlaced, IsImage}
+use Rattle.ia32_decode.specs.declared.NotDecoded.{NotDecoded}
+use Rattle.ia32_types.specs.declared.Instr.{Instr}
+use Rattle.ia32_types.specs.Spells.{Spells, Begins}
+use Rattle.surf_prog.specs.Fetch.{code_byte, begun_by, code_run, fetch_window, IsFetched}
+use Rattle.surf_prog.specs.Code.{HoldsCode}
+
+-- where a byte is known code, the run begins with it
+run_begun : (image : Image) (a m b : ℕ) → code_byte image a ≡ Some b → code_run image a (suc m) ≡ b ∷ code_run image (a + 1) m
+unfolding code_run
+run_begun image a m b byte = ap (λ o. begun_by o (code_run image (a + 1) m)) byte
+
+-- where none is, it is empty
+run_ended : (image : Image) (a n : ℕ) → code_byte image a ≡ None → code_run image a n ≡ []
+unfolding code_run
+run_ended image a zero byte = refl
+run_ended image a (suc n) byte = ap (λ o. begun_by o (code_run image (a + 1) n)) byte
+
+run_empty : (image : Image) (a n : ℕ) → n ≡ 0 → code_run image a n ≡ []
+unfolding code_run
+run_empty image a zero e = refl
+run_empty image a (suc n) e = absurd (omega arith)
+
+-- the run that is read so far, and the one that is left
+abbrev pub IsRead : Image → ℕ → ℕ → ℕ → List ℕ → Type 0
+IsRead image a n k done = code_run image a n ≡ done ++ code_run image (a + k) (n - k)
+
+pub read_start : (image : Image) (a n : ℕ) → IsRead image a n 0 []
+read_start image a n = let e : a ≡ a + 0 = omega arith in let m : n ≡ n - 0 = omega arith in ap (λ x. code_run image x n) e ∙ ap (λ x. code_run image (a + 0) x) m
+
+pub read_more : (image : Image) (a n k b : ℕ) (done more : List ℕ) → IsRead image a n k done → k < n → code_byte image (a + k) ≡ Some b → more ≡ done ++ b ∷ [] → IsRead image a n (k + 1) more
+read_more image a n k b done more read lt byte is =
+    let left : n - k ≡ suc (n - (k + 1)) = omega arith in
+    let on : a + k + 1 ≡ a + (k + 1) = omega arith in
+    let rest = code_run image (a + (k + 1)) (n - (k + 1)) in
+    let begun : code_run image (a + k) (n - k) ≡ b ∷ rest =
+    ap (λ m. code_run image (a + k) m) left ∙ run_begun image (a + k) (n - (k + 1)) b byte ∙ ap (λ x. b ∷ code_run image x (n - (k + 1))) on in
+    read ∙ ap (λ l. done ++ l) begun ∙ sym (append_assoc done (b ∷ []) rest) ∙ ap (λ l. l ++ rest) (sym is)
+
+-- the same where the bytes so far are a list of their own
+pub read_pushed : (image : Image) (a n b : ℕ) (done more : List ℕ) → IsRead image a n (length done) done → length done < n → code_byte image (a + length done) ≡ Some b → more ≡ done ++ b ∷ [] → IsRead image a n (length more) more
+read_pushed image a n b done more read lt byte is =
+    let long : length done + 1 ≡ length more = sym (ap length is ∙ length-append done (b ∷ [])) in
+    subst (λ k. IsRead image a n k more) long (read_more image a n (length done) b done more read lt byte is)
+
+-- it is the whole run where no byte follows, and where it has as many as there may be
+pub read_all : (image : Image) (a n k : ℕ) (done : List ℕ) → IsRead image a n k done → (code_byte image (a + k) ≡ None) ⊎ (n ≤ k) → done ≡ code_run image a n
+read_all image a n k done read ends =
+    let nothing : code_run image (a + k) (n - k) ≡ [] = ⊎_elim (λ none. run_ended image (a + k) (n - k) none) (λ full. run_empty image (a + k) (n - k) (omega arith)) ends in
+    sym (append-nil done) ∙ sym (ap (λ l. done ++ l) nothing) ∙ sym read
+
+-- what is fetched is what the code there begins with
+pub fetched_begins : (image : Image) (a : ℕ) (i : Instr) → Begins (fetch_window image a) a i ↔ IsFetched image a i
+fetched_begins image a i = (
+  λ begins. record {
+    count = length begins.used;
+    spelled = subst (λ bytes. Spells bytes a i) (sym (ap (λ l. take (length begins.used) l) begins.split ∙ take_at begins.used begins.rest (length begins.used) refl)) begins.spells;
+  },
+  λ fetched. record {
+    used = take fetched.count (fetch_window image a);
+    rest = drop fetched.count (fetch_window image a);
+    split = sym (take-append-drop fetched.count (fetch_window image a));
+    spells = fetched.spelled;
+  },
+)
+
+pub decoded_none : (image : Image) (a : ℕ) (window : List ℕ) (e : NotDecoded) → window ≡ fetch_window image a → ((i : Instr) → (◌≡◌ {A = Result Instr NotDecoded} (Err e) (Ok i)) ↔ Begins window a i) → (i : Instr) → (◌≡◌ {A = Option Instr} None (Some i)) ↔ IsFetched image a i
+decoded_none image a window e is ok i = (
+  λ same. absurd (cc),
+  λ fetched.
+      let begins : Begins window a i = subst (λ bytes. Begins bytes a i) (sym is) ((fetched_begins image a i).1 fetched) in
+      let same : ◌≡◌ {A = Result Instr NotDecoded} (Err e) (Ok i) = (ok i).1 begins in
+      absurd (cc),
+)
+
+pub decoded_some : (image : Image) (a : ℕ) (window : List ℕ) (j : Instr) → window ≡ fetch_window image a → ((i : Instr) → (◌≡◌ {A = Result Instr NotDecoded} (Ok j) (Ok i)) ↔ Begins window a i) → (i : Instr) → (◌≡◌ {A = Option Instr} (Some j) (Some i)) ↔ IsFetched image a i
+decoded_some image a window j is ok i = (
+  λ same.
+      let one : j ≡ i = cc in
+      (fetched_begins image a i).0 (subst (λ bytes. Begins bytes a i) is ((ok i).0 (ap Ok one))),
+  λ fetched.
+      let begins : Begins window a i = subst (λ bytes. Begins bytes a i) (sym is) ((fetched_begins image a i).1 fetched) in
+      let same : ◌≡◌ {A = Result Instr NotDecoded} (Ok j) (Ok i) = (ok i).1 begins in
+      let one : j ≡ i = cc in
+      ap Some one,
+)
+
+-- -- The code of an image
+
+if_some : (t : Bool) (o : Option ℕ) (b : ℕ) → (if t then o else None) ≡ Some b → (t ≡ true) × (o ≡ Some b)
+if_some true o b e = (refl, e)
+if_some false o b e = absurd (cc)
+
+-- the byte that a run has at an index is known code
+abbrev IsKnownCode : Image → ℕ → ℕ → Type 0
+IsKnownCode image a b = (is_code image a ≡ true) × (byte_at image a ≡ Some b)
+
+begun_known : (image : Image) (a : ℕ) (o : Option ℕ) (rest : List ℕ) → code_byte image a ≡ o → ((k : ℕ) → k < length rest → IsKnownCode image (a + 1 + k) (slice_index rest k))
+    → (k : ℕ) → k < length (begun_by o rest) → IsKnownCode image (a + k) (slice_index (begun_by o rest) k)
+begun_known image a None rest e known k lt = absurd (omega arith)
+begun_known image a (Some b) rest e known zero lt =
+    let here : a ≡ a + 0 = omega arith in
+    subst (λ x. IsKnownCode image x b) here (if_some (is_code image a) (byte_at image a) b e)
+begun_known image a (Some b) rest e known (suc k) lt =
+    let here : a + 1 + k ≡ a + suc k = omega arith in
+    subst (λ x. IsKnownCode image x (slice_index rest k)) here (known k (omega arith))
+
+run_known : (image : Image) (a n k : ℕ) → k < length (code_run image a n) → IsKnownCode image (a + k) (slice_index (code_run image a n) k)
+unfolding code_run
+run_known image a zero k lt = absurd (omega arith)
+run_known image a (suc n) k lt = begun_known image a (code_byte image a) (code_run image (a + 1) n) refl (λ j below. run_known image (a + 1) n j below) k lt
+
+and_both : (a b : Bool) → (a && b) ≡ true → (a ≡ true) × (b ≡ true)
+and_both true b h = (refl, h)
+and_both false b h = absurd (false≢true h)
+
+-- what lies in a segment of an image lies below the end of their addresses
+held_below : (s : Segment) (a : ℕ) → IsPlaced s → holds a s ≡ true → a < 0x7FFFFFFF
+held_below s a placed held =
+    let both = and_both (nat_le s.start a) (nat_lt (a - s.start) (length s.bytes)) held in
+    let low = leb-true s.start a both.0 in
+    let high = ltb-true (a - s.start) (length s.bytes) both.1 in
+    let end = placed.high in
+    omega arith
+
+found_below : (s : Segment) (a : ℕ) (t : Bool) (o : Option Segment) → holds a s ≡ t → IsPlaced s → (option_map_or (has_flag PF_X) o false ≡ true → a < 0x7FFFFFFF) → option_map_or (has_flag PF_X) (if t then Some s else o) false ≡ true → a < 0x7FFFFFFF
+found_below s a true o e placed rest h = held_below s a placed e
+found_below s a false o e placed rest h = rest h
+
+placed_below : (segments : List Segment) (a : ℕ) → ArePlaced segments → is_in segments PF_X a ≡ true → a < 0x7FFFFFFF
+placed_below [] a placed h = absurd (false≢true h)
+placed_below (s ∷ ss) a placed h = found_below s a (holds a s) (segment_at ss a) refl placed.0 (λ there. placed_below ss a placed.2 there) h
+
+none_or_some : (n : ℕ) → (n ≡ 0) ⊎ (1 ≤ n)
+none_or_some zero = inl refl
+none_or_some (suc n) = inr (omega arith)
+
+-- the code of an image from an entry on is in the image
+pub holds_code : (image : Image) (entry n : ℕ) → IsImage image → entry < 2 ^ 32 → HoldsCode image entry (code_run image entry n)
+holds_code image entry n is_image entry_below = record {
+  fits = ⊎_elim
+      (λ none. omega arith)
+      (λ some.
+      let last = run_known image entry n (length (code_run image entry n) - 1) (omega arith) in
+      let below = placed_below image.segments (entry + (length (code_run image entry n) - 1)) is_image.segments last.0 in
+      omega arith)
+      (none_or_some (length (code_run image entry n)));
+  is_code = λ k lt. (run_known image entry n k lt).0;
+  known = λ k lt. (run_known image entry n k lt).1;
+}
+
+pub held_code : (image : Image) (entry n : ℕ) (code : List ℕ) → entry < 2 ^ 32 → code ≡ code_run image entry n → IsImage image → HoldsCode image entry code
+held_code image entry n code below is is_image = subst (λ l. HoldsCode image entry l) (sym is) (holds_code image entry n is_image below)
