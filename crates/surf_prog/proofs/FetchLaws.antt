@@ -1,21 +1,17 @@
 -- Laws of the code of an image, read byte by byte.
 use Rattle.std.proofs.Common.{◌≡◌, ◌↔◌, ◌⊎◌, inl, inr, ⊎_elim, ℕ, zero, suc, ◌+◌, ◌-◌, ◌<◌, ◌≤◌, List, [], ◌∷◌, ◌++◌, length, take, drop, Option, Some, None, refl, sym, ◌∙◌, ap, subst, append_assoc, length-append, arith}
 use Rattle.std.proofs.lemmas.List.{append-nil, take_at, take-append-drop}
-use Rattle.std.proofs.lemmas.Bool.{false≢true}
-use Rattle.std.specs.Prelude.{◌^◌, Bool, true, false, ◌&&◌, if◌then◌else◌, nat_le, nat_lt, slice_index, Result, Ok, Err}
-use Rattle.std.specs.Option.{option_map_or}
-use borrow.Author.Tests.{leb-true, ltb-true}
+use Rattle.std.specs.Prelude.{◌^◌, Bool, true, false, if◌then◌else◌, slice_index, Result, Ok, Err}
 use Rattle.image_map.specs.declared.image.Image.{Image}
-use Rattle.image_map.specs.declared.image.Segment.{Segment}
 use Rattle.image_map.specs.declared.image.TheConstants.{PF_X}
-use Rattle.image_map.specs.Memory.{holds, has_flag, segment_at, is_in}
 use Rattle.image_map.specs.Queries.{byte_at, is_code}
-use Rattle.image_map.specs.Whole.{IsPlaced, ArePlaced, IsImage}
+use Rattle.image_map.specs.Whole.{IsImage}
 use Rattle.ia32_decode.specs.declared.NotDecoded.{NotDecoded}
 use Rattle.ia32_types.specs.declared.Instr.{Instr}
 use Rattle.ia32_types.specs.Spells.{Spells, Begins}
 use Rattle.surf_prog.specs.Fetch.{code_byte, begun_by, code_run, fetch_window, IsFetched}
 use Rattle.surf_prog.specs.Code.{HoldsCode}
+use Rattle.surf_prog.proofs.SegmentLaws.{flagged_below}
 
 -- where a byte is known code, the run begins with it
 run_begun : (image : Image) (a m b : ℕ) → code_byte image a ≡ Some b → code_run image a (suc m) ≡ b ∷ code_run image (a + 1) m
@@ -122,27 +118,6 @@ unfolding code_run
 run_known image a zero k lt = absurd (omega arith)
 run_known image a (suc n) k lt = begun_known image a (code_byte image a) (code_run image (a + 1) n) refl (λ j below. run_known image (a + 1) n j below) k lt
 
-and_both : (a b : Bool) → (a && b) ≡ true → (a ≡ true) × (b ≡ true)
-and_both true b h = (refl, h)
-and_both false b h = absurd (false≢true h)
-
--- what lies in a segment of an image lies below the end of their addresses
-held_below : (s : Segment) (a : ℕ) → IsPlaced s → holds a s ≡ true → a < 0x7FFFFFFF
-held_below s a placed held =
-    let both = and_both (nat_le s.start a) (nat_lt (a - s.start) (length s.bytes)) held in
-    let low = leb-true s.start a both.0 in
-    let high = ltb-true (a - s.start) (length s.bytes) both.1 in
-    let end = placed.high in
-    omega arith
-
-found_below : (s : Segment) (a : ℕ) (t : Bool) (o : Option Segment) → holds a s ≡ t → IsPlaced s → (option_map_or (has_flag PF_X) o false ≡ true → a < 0x7FFFFFFF) → option_map_or (has_flag PF_X) (if t then Some s else o) false ≡ true → a < 0x7FFFFFFF
-found_below s a true o e placed rest h = held_below s a placed e
-found_below s a false o e placed rest h = rest h
-
-placed_below : (segments : List Segment) (a : ℕ) → ArePlaced segments → is_in segments PF_X a ≡ true → a < 0x7FFFFFFF
-placed_below [] a placed h = absurd (false≢true h)
-placed_below (s ∷ ss) a placed h = found_below s a (holds a s) (segment_at ss a) refl placed.0 (λ there. placed_below ss a placed.2 there) h
-
 none_or_some : (n : ℕ) → (n ≡ 0) ⊎ (1 ≤ n)
 none_or_some zero = inl refl
 none_or_some (suc n) = inr (omega arith)
@@ -154,7 +129,7 @@ holds_code image entry n is_image entry_below = record {
       (λ none. omega arith)
       (λ some.
       let last = run_known image entry n (length (code_run image entry n) - 1) (omega arith) in
-      let below = placed_below image.segments (entry + (length (code_run image entry n) - 1)) is_image.segments last.0 in
+      let below = flagged_below image.segments PF_X (entry + (length (code_run image entry n) - 1)) is_image.segments last.0 in
       omega arith)
       (none_or_some (length (code_run image entry n)));
   is_code = λ k lt. (run_known image entry n k lt).0;

@@ -98,7 +98,7 @@ same_bytes file i j p q a =
 same_code_byte : (file : List ℕ) (i j : Image) → Loads file i → Loads file j → (a : ℕ) → code_byte i a ≡ code_byte j a
 same_code_byte file i j p q a = let code = same_code file i j p q a in let byte = same_bytes file i j p q a in λ k. cond (code k) (byte k) None
 
-same_run : (file : List ℕ) (i j : Image) → Loads file i → Loads file j → (a n : ℕ) → code_run i a n ≡ code_run j a n
+pub same_run : (file : List ℕ) (i j : Image) → Loads file i → Loads file j → (a n : ℕ) → code_run i a n ≡ code_run j a n
 unfolding code_run
 same_run file i j p q a zero = refl
 same_run file i j p q a (suc n) = let byte = same_code_byte file i j p q a in let rest = same_run file i j p q (a + 1) n in λ k. begun_by (byte k) (rest k)

@@ -4,6 +4,8 @@ pub mod Backward
 pub mod Straight
 pub mod StraightStops
 pub mod OneBegins
+pub mod StraightPlaces
+pub mod SegmentLaws
 pub mod FetchLaws
 pub mod ListingLaws
 pub mod FileImage
@@ -11,11 +13,12 @@ pub mod WordLaws
 pub mod TextLaws
 pub mod RefusalLaws
 pub mod RequestLaws
+pub mod RisingLists
+pub mod OneAnswer
 pub mod RunArrows
 pub mod RunLaws
 pub mod RowsUndone
 pub mod PlacesOfRows
-pub mod StraightPlaces
 pub mod StraightSteps
 pub mod StraightFetch
 pub mod StraightWalk

@@ -39,17 +39,17 @@ moved_straight file i j instrs p q straight =
     let code = subst (λ c. IsStraight i.entry c instrs) (same_code_of file i j p q) straight in
     subst (λ e. IsStraight e (code_of j j.entry) instrs) (same_entry file i j p q) code
 
-one_code : (file : List ℕ) (is js : List Instr) → HasCode file is → HasCode file js → is ≡ js
+pub one_code : (file : List ℕ) (is js : List Instr) → HasCode file is → HasCode file js → is ≡ js
 one_code file is js p q =
     let straight = moved_straight file p.image q.image is p.entered.loads q.entered.loads p.straight in
     one_list is js q.image.entry (code_of q.image q.image.entry) straight.lists q.straight.lists
 
 -- an image, where there is one, is no missing one
-loads_passes : (file : List ℕ) (image : Image) (cause : ElfError) → Loads file image → ¬ HasNoImage file cause
+pub loads_passes : (file : List ℕ) (image : Image) (cause : ElfError) → Loads file image → ¬ HasNoImage file cause
 loads_passes file image cause loads none = let no : ◌≡◌ {A = Option ElfError} None (Some cause) = sym loads.passes ∙ none in absurd (cc)
 
 -- it is entered in code by each image, or by none
-enters_once : (file : List ℕ) (image : Image) → Enters file image → ¬ HasNoEntry file
+pub enters_once : (file : List ℕ) (image : Image) → Enters file image → ¬ HasNoEntry file
 enters_once file image entered none =
     let code : is_code image image.entry ≡ is_code none.0 none.0.entry = same_code file image none.0 entered.loads none.1 image.entry ∙ ap (is_code none.0) (same_entry file image none.0 entered.loads none.1) in
     false≢true (sym none.2 ∙ sym code ∙ entered.enters)
@@ -59,15 +59,15 @@ pub record Entered (file : List ℕ) : Type 0 where
   pub image : Image
   pub entered : Enters file image
 
-reply_enters : (file : List ℕ) (asked : Task) → HasReply file asked → Entered file
+pub reply_enters : (file : List ℕ) (asked : Task) → HasReply file asked → Entered file
 reply_enters file (task.Slice at) has = record { image = has.1.image; entered = has.1.entered }
 reply_enters file (task.List from steps) has = record { image = has.image; entered = has.entered }
 
-absent_enters : (file : List ℕ) (asked : Task) (at : ℕ) → IsAbsent file asked at → Entered file
+pub absent_enters : (file : List ℕ) (asked : Task) (at : ℕ) → IsAbsent file asked at → Entered file
 absent_enters file (task.Slice place) at absent = record { image = absent.1.1.image; entered = absent.1.1.entered }
 absent_enters file (task.List from steps) at absent = record { image = absent.1.0; entered = absent.1.1 }
 
-unsupported_enters : (file : List ℕ) (asked : Task) (at : ℕ) → IsUnsupported file asked at → Entered file
+pub unsupported_enters : (file : List ℕ) (asked : Task) (at : ℕ) → IsUnsupported file asked at → Entered file
 unsupported_enters file (task.Slice place) at unsupported = record { image = unsupported.0; entered = unsupported.1 }
 unsupported_enters file (task.List from steps) at unsupported = absurd unsupported
 
@@ -76,11 +76,11 @@ code_supported file instrs place at has unsupported =
     straight_or_stops unsupported.0.entry (code_of unsupported.0 unsupported.0.entry) instrs at
     (moved_straight file has.image unsupported.0 instrs has.entered.loads unsupported.1.loads has.straight) unsupported.2
 
-absent_supported : (file : List ℕ) (asked : Task) (place at : ℕ) → IsAbsent file asked place → ¬ IsUnsupported file asked at
+pub absent_supported : (file : List ℕ) (asked : Task) (place at : ℕ) → IsAbsent file asked place → ¬ IsUnsupported file asked at
 absent_supported file (task.Slice criterion) place at absent = code_supported file absent.1.0 criterion at absent.1.1
 absent_supported file (task.List from steps) place at absent = λ unsupported. absurd unsupported
 
-reply_supported : (file : List ℕ) (asked : Task) (at : ℕ) → HasReply file asked → ¬ IsUnsupported file asked at
+pub reply_supported : (file : List ℕ) (asked : Task) (at : ℕ) → HasReply file asked → ¬ IsUnsupported file asked at
 reply_supported file (task.Slice criterion) at has = code_supported file has.0 criterion at has.1
 reply_supported file (task.List from steps) at has = λ unsupported. absurd unsupported
 
@@ -91,7 +91,7 @@ list_present file (Some at) place has is image entered none =
     let code : is_code has.image at ≡ is_code image place = same_code file has.image image has.entered.loads entered.loads at ∙ ap (is_code image) same in
     false≢true (sym none ∙ sym code ∙ has.begins)
 
-reply_present : (file : List ℕ) (asked : Task) (place : ℕ) → HasReply file asked → ¬ IsAbsent file asked place
+pub reply_present : (file : List ℕ) (asked : Task) (place : ℕ) → HasReply file asked → ¬ IsAbsent file asked place
 reply_present file (task.Slice at) place has absent = absent.1.2 (subst (λ is. HasNode is at) (one_code file has.0 absent.1.0 has.1 absent.1.1) has.2)
 reply_present file (task.List from steps) place has absent = list_present file from place has absent.0 absent.1.0 absent.1.1 absent.1.2
 

@@ -101,7 +101,7 @@ adds s i t e =
       src_is = from.1;
       read_old = subst (λ o. read_operand s i.width o ≡ Some old.0) w.to_is old.1;
       read = value.1;
-      state = ap (λ (v : State). record v { eip = next_place i; flags = sum_flags 32 old.0 value.0 }) w.state ∙ same_Some _ t u.2;
+      state = ap (λ (v : State). record v { eip = next_place i; flags = sum_flags 32 old.0 value.0 }) w.state ∙ same_Some (record u.0 { eip = next_place i; flags = sum_flags 32 old.0 value.0 }) t u.2;
     }
 
 pub record Returns (s : State) (t : State) : Type 0 where

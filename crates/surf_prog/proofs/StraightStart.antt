@@ -1,28 +1,23 @@
 -- Each image has a start.
-use Rattle.std.proofs.Common.{◌≡◌, ℕ, ◌+◌, ◌-◌, ◌^◌, ◌<◌, List, [], ◌∷◌, length, Option, Some, None, refl, ap, subst, ◌∙◌, inl, cond, arith}
+use Rattle.std.proofs.Common.{◌≡◌, ℕ, ◌+◌, ◌-◌, ◌^◌, ◌<◌, [], ◌∷◌, Option, Some, None, refl, ap, subst, ◌∙◌, inl, cond, arith}
 use Rattle.std.specs.Prelude.{Bool, true, false, ◌&&◌, ◌||◌, ◌==◌, if◌then◌else◌, nat_le, nat_lt, is_some, unwrap_or}
 use Rattle.std.specs.Option.{option_and_then}
 use Rattle.std.proofs.lemmas.Option.{none-some, same_Some}
-use Rattle.std.proofs.lemmas.Bool.{false≢true}
-use borrow.Author.Tests.{leb-true, ltb-true, lt-leb}
+use borrow.Author.Tests.{lt-leb}
 use Rattle.image_map.specs.declared.image.Segment.{Segment}
 use Rattle.image_map.specs.declared.image.Image.{Image}
-use Rattle.image_map.specs.Memory.{holds, segment_at}
+use Rattle.image_map.specs.Memory.{segment_at}
 use Rattle.image_map.specs.Queries.{is_in_segment, byte_at}
 use Rattle.image_map.specs.Ranges.{is_any}
-use Rattle.image_map.specs.Whole.{IsPlaced, ArePlaced}
+use Rattle.image_map.specs.Whole.{ArePlaced}
 use Rattle.surf_prog.specs.ImageMapState.{Bytes, State, esp}
 use Rattle.surf_prog.specs.Ia32Machine.{Settings, is_in_stack, entry_activation}
 use Rattle.surf_prog.specs.StraightRuns.{ImagesStart}
-use Rattle.surf_prog.proofs.StraightPlaces.{both_of}
+use Rattle.surf_prog.proofs.SegmentLaws.{image_end, segments_below}
 
 -- a place for the entry's return slot
 abbrev slot : ℕ
 slot = 0xBFF0000C
-
--- segments lie below this address
-abbrev pub image_end : ℕ
-image_end = 0x7FFFFFFF
 
 -- HALT in the slot, and 0 elsewhere
 abbrev stack_byte : ℕ → ℕ
@@ -79,23 +74,6 @@ from_segment false (Some s) f byte e = refl
 
 in_segment : (image : Image) (a byte : ℕ) → byte_at image a ≡ Some byte → is_in_segment image a ≡ true
 in_segment image a byte e = from_segment (is_any image.any_bytes a) (segment_at image.segments a) _ byte e
-
-held_below : (s : Segment) (a : ℕ) → IsPlaced s → holds a s ≡ true → a < image_end
-held_below s a placed held =
-    let both = both_of (nat_le s.start a) (nat_lt (a - s.start) (length s.bytes)) held in
-    let low = leb-true s.start a both.0 in
-    let high = ltb-true (a - s.start) (length s.bytes) both.1 in
-    let end = placed.high in
-    omega arith
-
-found_below : (s : Segment) (a : ℕ) (held : Bool) (o : Option Segment) → holds a s ≡ held → IsPlaced s → (is_some o ≡ true → a < image_end) → is_some (cond held (Some s) o) ≡ true → a < image_end
-found_below s a true o e placed rest h = held_below s a placed e
-found_below s a false o e placed rest h = rest h
-
--- what lies in a segment lies below the end of their addresses
-pub segments_below : (segments : List Segment) (a : ℕ) → ArePlaced segments → is_some (segment_at segments a) ≡ true → a < image_end
-segments_below [] a placed h = absurd (false≢true h)
-segments_below (s ∷ ss) a placed h = found_below s a (holds a s) (segment_at ss a) refl placed.0 (λ there. segments_below ss a placed.2 there) h
 
 outside : (a : ℕ) → a < image_end → is_in_stack slot a ≡ false
 outside a h =

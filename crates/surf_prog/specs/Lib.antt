@@ -11,6 +11,7 @@ pub mod Words
 pub mod Reply
 pub mod Once
 pub mod Answer
+pub mod OneAnswer
 pub mod ImageMapState
 pub mod Ia32Machine
 pub mod Ia32Run

@@ -1,4 +1,5 @@
-// The runs of straight code, and what its slice says of them: laws of the definitions.
+// Laws of the definitions: what a file answers is one thing, and what the slice of straight code says of its runs.
+ghost use Rattle.surf_prog.specs.OneAnswer.{RepliesAreOne, StopsAreOne, AbsencesAreOne, OutcomesExclude};
 ghost use Rattle.surf_prog.specs.Ia32Machine.{StartsAreWhole};
 ghost use Rattle.surf_prog.specs.Ia32Run.{BeginningsAreRuns};
 ghost use Rattle.surf_prog.specs.RunPlaces.{ChangesOnlyWrites, WritesFollowReads};
@@ -23,4 +24,14 @@ pub fn straight_run_laws()
     ensures order { RunsExecuteInOrder }
     ensures edges { ReadsHaveEdges }
     ensures slices { SlicesListDependences }
+{}
+
+/// The laws of what a file answers, by whatever image of it. A reply is one text, code stops being straight at one place, one
+/// address is absent; and of no image, no entry in code, code that isn't straight, an absent address and a reply a
+/// file has one at most.
+pub fn answer_laws()
+    ensures replies { RepliesAreOne }
+    ensures stops { StopsAreOne }
+    ensures absences { AbsencesAreOne }
+    ensures outcomes { OutcomesExclude }
 {}
