@@ -4,7 +4,7 @@ use std::test::Fail;
 
 /// The word's round, `*` where it is claimed, the word's slot, and then each slot: `_` is empty, `t1` is taken by seat 1,
 /// and `3r0` is filled with round 3 and read by seat 0.
-pub fn picture(alloc: Global, lane: &Lane) -> Result<String, AllocError> {
+pub(crate) fn picture(alloc: Global, lane: &Lane) -> Result<String, AllocError> {
     let Word {
         round,
         claimed,

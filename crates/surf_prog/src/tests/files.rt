@@ -9,18 +9,18 @@ const HEADER: [u8; 84] = [
 ];
 
 /// mov eax, 5; mov ebx, 7; mov ecx, eax; add ecx, ebx; ret
-pub const SUM: [u8; 15] = [
+pub(super) const SUM: [u8; 15] = [
     0xB8, 5, 0, 0, 0, 0xBB, 7, 0, 0, 0, 0x89, 0xC1, 0x01, 0xD9, 0xC3,
 ];
 
 /// How gcc begins and ends the procedure main.
-pub const MAIN: [u8; 30] = [
+pub(super) const MAIN: [u8; 30] = [
     0x8D, 0x4C, 0x24, 4, 0x83, 0xE4, 0xF0, 0xFF, 0x71, 0xFC, 0x55, 0x89, 0xE5, 0x51, 0x83, 0xEC, 4,
     0xB8, 0, 0, 0, 0, 0x8B, 0x4D, 0xFC, 0xC9, 0x8D, 0x61, 0xFC, 0xC3,
 ];
 
 /// A file of one segment of code at 08049000, of fewer than 65,536 bytes.
-pub fn code_file(alloc: Global, code: &[u8]) -> Result<Vec<u8>, AllocError> {
+pub(super) fn code_file(alloc: Global, code: &[u8]) -> Result<Vec<u8>, AllocError> {
     let mut file = HEADER.to_vec(alloc)?;
     for place in [68usize, 72] {
         if let Some(low) = file.get_mut(place) {
@@ -35,7 +35,7 @@ pub fn code_file(alloc: Global, code: &[u8]) -> Result<Vec<u8>, AllocError> {
 }
 
 /// The file of the sum with some bytes changed.
-pub fn changed_file(alloc: Global, changes: &[(usize, u8)]) -> Result<Vec<u8>, AllocError> {
+pub(super) fn changed_file(alloc: Global, changes: &[(usize, u8)]) -> Result<Vec<u8>, AllocError> {
     let mut file = code_file(alloc, &SUM)?;
     for (place, byte) in changes {
         if let Some(old) = file.get_mut(*place) {
@@ -53,7 +53,7 @@ fn push_words(file: &mut Vec<u8>, words: &[u32]) -> Result<(), AllocError> {
 }
 
 /// A file of code that uses an undefined symbol by one relocation of a kind, of a word in a segment that may be written.
-pub fn linked_file(alloc: Global, code: [u8; 4], kind: u32) -> Result<Vec<u8>, AllocError> {
+pub(super) fn linked_file(alloc: Global, code: [u8; 4], kind: u32) -> Result<Vec<u8>, AllocError> {
     let mut file = Vec::new(alloc);
     file.extend_from_slice(&HEADER[..32])?;
     // Section headers at 168, two program headers, three sections.
