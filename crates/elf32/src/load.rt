@@ -5,7 +5,8 @@ ghost use Rattle.elf32.specs.Loading.{segment};
 ghost use Rattle.elf32.specs.Shapes.{AreLow};
 
 use crate::fields::ProgramHeader;
-use image_map::{Items, Segment};
+use image_map::Segment;
+use item_list::Items;
 use std::alloc::{AllocError, Global};
 
 /// The `len` bytes from an offset on, or fewer where the slice ends before.

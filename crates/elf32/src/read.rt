@@ -22,7 +22,8 @@ use crate::memory::Memory;
 use crate::names::{Text, Texts, find_texts, name_at};
 use crate::relocate::{Program, relocate_all};
 use crate::symbols::symbols;
-use image_map::{EMPTY_HASH, Extern, Image, Items, Name, Spans};
+use image_map::{EMPTY_HASH, Extern, Image, Name, Spans};
+use item_list::Items;
 use std::alloc::{AllocError, Global};
 use std::sync::Arc;
 

@@ -4,7 +4,6 @@
 
 mod hash;
 mod image;
-mod items;
 mod name;
 mod region;
 mod spans;
@@ -17,7 +16,6 @@ pub use image::{
     EXTERN_BASE, EXTERN_STEP, Extern, Image, PF_R, PF_W, PF_X, Segment, memory_byte,
     segment_holding,
 };
-pub use items::Items;
 pub use name::Name;
 pub use region::{Activation, Block, Cell, Kind, RegionId, Settings};
 pub use spans::{Span, Spans};

@@ -1,4 +1,4 @@
-use crate::items::Items;
+use item_list::Items;
 
 /// A region of memory, named as the analysis sees it. The order is that of the variants, then that of
 /// their numbers.

@@ -1,7 +1,8 @@
 use crate::{
-    EMPTY_HASH, EXTERN_BASE, Extern, Image, Items, Name, PF_R, PF_W, PF_X, RegionId, Segment, Span,
-    Spans, Symbol, Symbols, hash_before, hash_of,
+    EMPTY_HASH, EXTERN_BASE, Extern, Image, Name, PF_R, PF_W, PF_X, RegionId, Segment, Span, Spans,
+    Symbol, Symbols, hash_before, hash_of,
 };
+use item_list::Items;
 use std::alloc::{AllocError, Global};
 
 fn name(alloc: Global, text: &[u8]) -> Result<Name, AllocError> {

@@ -1,7 +1,8 @@
 // Code and lists of small images.
 use super::listing;
 use crate::code::code_of;
-use image_map::{Image, Items, PF_R, PF_W, PF_X, Segment, Spans, Symbols};
+use image_map::{Image, PF_R, PF_W, PF_X, Segment, Spans, Symbols};
+use item_list::Items;
 use std::alloc::{AllocError, Global};
 use std::process::Abort;
 use std::test::Fail;
