@@ -1,8 +1,11 @@
-ghost use Rattle.std.specs.Prelude.{◌≡◌, [], ◌∷◌, ◌++◌, ◌<◌, length, slice_get, slice_set, ◌↔◌, IsTrue, IfOk, OnOk, OnErr, OnSome};
+ghost use Rattle.std.specs.Prelude.{◌≡◌, [], ◌∷◌, ◌++◌, ◌<◌, length, slice_get, slice_set, ◌↔◌, IsTrue, IfOk, MatchOption, OnOk, OnErr, OnSome};
+ghost use Rattle.std.specs.List.{AllZip};
+ghost use Rattle.std.specs.Slice.Iter.{iter_rest};
 ghost use Rattle.std.specs.Option.{option_copied};
 
 use std::alloc::{AllocError, Global};
 use std::marker::Model;
+use std::slice::Iter;
 
 /// A `Vec` that contracts see as the list of its elements, so that a value that holds one can be
 /// compared with a definition.
@@ -54,6 +57,13 @@ impl<T> Items<T> {
         self.items.as_slice()
     }
 
+    /// The elements in order, lent one by one.
+    pub fn iter(&self) -> Iter<'_, T>
+        ensures { iter_rest result ≡ self.now }
+    {
+        self.items.iter()
+    }
+
     /// The number of elements.
     pub fn len(&self) -> usize
         ensures { result ≡ length self.now }
@@ -75,6 +85,23 @@ impl<T> Items<T> {
     {
         self.items.get(at)
     }
+
+    /// Takes the last element, if there is one.
+    pub fn pop(&mut self) -> Option<T>
+        ensures { MatchOption result ((self.old ≡ []) × (self.new ≡ [])) (λ last. self.old ≡ self.new ++ last ∷ []) }
+    {
+        self.items.pop()
+    }
+}
+
+impl<T: Clone> Clone for Items<T> {
+    // The same list, where a clone of an element equals it.
+    ghost is_clone = { λ it clone. AllZip T.is_clone it clone × (((x y : T) → T.is_clone x y → y ≡ x) → clone ≡ it) };
+
+    fn clone(&self) -> Result<Items<T>, AllocError> {
+        let items = Vec::from_clones(*self.items.allocator(), self.items.as_slice())?;
+        Ok(Items { items })
+    }
 }
 
 impl<T: Copy> Items<T> {
@@ -84,6 +111,14 @@ impl<T: Copy> Items<T> {
     {
         let items = Vec::from_slice(alloc, items)?;
         Ok(Items { items })
+    }
+
+    /// Puts copies of a slice's elements at the end.
+    pub fn extend_from_slice(&mut self, more: &[T]) -> Result<(), AllocError>
+        ensures ok { OnOk result (self.new ≡ self.old ++ more.now) }
+        ensures err { OnErr result (self.new ≡ self.old) }
+    {
+        self.items.extend_from_slice(more)
     }
 }
 
@@ -103,5 +138,14 @@ impl<T: Drop> Items<T> {
     {
         self.items.push(item)?;
         Ok(())
+    }
+
+    /// Moves the elements of `more` to the end; where memory lacks, it drops them.
+    pub fn append(&mut self, more: Items<T>) -> Result<(), AllocError>
+        ensures ok { OnOk result (self.new ≡ self.old ++ more) }
+        ensures err { OnErr result (self.new ≡ self.old) }
+    {
+        let Items { mut items } = more;
+        self.items.append(&mut items)
     }
 }

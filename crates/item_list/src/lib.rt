@@ -1,7 +1,9 @@
-//! A `Vec` that contracts see as the list of its elements, and the lemmas on truth values, lists and options
-//! that crates share.
+//! A `Vec` that contracts see as the list of its elements, and the lemmas that crates share and the standard library lacks.
 #![tactic(auto)]
 
 mod items;
 
 pub use items::Items;
+
+#[cfg(test)]
+mod tests;
