@@ -7,7 +7,7 @@ use Rattle.ia32_types.specs.declared.Instr.{Instr}
 use Rattle.ia32_types.specs.declared.forms.Parts.{Parts}
 use Rattle.ia32_types.specs.Forms.{finished}
 use Rattle.ia32_types.specs.Spells.{Spells, Begins, instruction}
-use Rattle.ia32_types.proofs.SpellsLaws.{not_empty}
+use Rattle.ia32_types.proofs.SpellsLemmas.{not_empty}
 use Rattle.ia32_decode.specs.declared.NotDecoded.{NotDecoded}
 use Rattle.ia32_decode.specs.declared.NotDecoded.TheVariants.{Short, Unknown}
 use Rattle.ia32_decode.specs.Reading.{run, and_then}

@@ -1,3 +1,4 @@
-pub mod ReaderLaws
-pub mod SetLaws
-pub mod SpellsLaws
+pub mod NumberLemmas
+pub mod ReaderLemmas
+pub mod SetLemmas
+pub mod SpellsLemmas

@@ -2,7 +2,7 @@
 
 use Rattle.std.specs.Prelude.{ℕ, ◌+◌, ◌-◌, ◌/◌, ◌%◌, Bool, true, false, ◌==◌, nat_lt, ◌||◌, ◌&&◌, if◌then◌else◌, Option, Some, None, option_map}
 use Rattle.ia32_types.specs.declared.Reg.{Reg}
-use Rattle.ia32_types.specs.declared.Reg.TheVariants.{Eax, Ecx, Edx, Ebx, Esp, Ebp, Esi, Edi}
+use Rattle.ia32_types.specs.declared.Reg.TheVariants.{Ecx}
 use Rattle.ia32_types.specs.declared.Width.{Width}
 use Rattle.ia32_types.specs.declared.Width.TheVariants.{B8, W16, D32}
 use Rattle.ia32_types.specs.declared.Mem.{Mem}
@@ -19,6 +19,7 @@ use Rattle.ia32_types.specs.declared.forms.Form.{Form}
 use Rattle.ia32_types.specs.declared.forms.Segment.{Segment}
 use Rattle.ia32_types.specs.declared.forms.Segment.TheVariants as segment
 use Rattle.ia32_types.specs.declared.forms.Parts.{Parts}
+use Rattle.ia32_types.specs.Numbers.{reg_of}
 
 -- forms of no to three operands
 abbrev pub plain : Op → Size → Form
@@ -52,17 +53,6 @@ abbrev pub width_limit : Width → ℕ
 width_limit B8 = 256
 width_limit W16 = 65536
 width_limit D32 = 4294967296
-
--- the general register of a number below 8
-abbrev pub reg_of : ℕ → Reg
-reg_of n =
-    (if n == 0 then Eax else
-    (if n == 1 then Ecx else
-    (if n == 2 then Edx else
-    (if n == 3 then Ebx else
-    (if n == 4 then Esp else
-    (if n == 5 then Ebp else
-    (if n == 6 then Esi else Edi)))))))
 
 -- the register of a number at a width: at 8 bits AL, CL, DL, BL, AH, CH, DH, BH
 abbrev pub reg_operand : Width → ℕ → Operand

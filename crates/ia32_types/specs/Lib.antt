@@ -1,3 +1,4 @@
+pub mod Numbers
 pub mod Sets
 pub mod Readers
 pub mod Forms

@@ -5,7 +5,8 @@ use Rattle.ia32_types.specs.declared.Reg.{Reg}
 use Rattle.ia32_types.specs.declared.Width.TheVariants.{D32}
 use Rattle.ia32_types.specs.declared.Mem.{Mem}
 use Rattle.ia32_types.specs.Readers.{Reader, done, more, then_, octet, quad}
-use Rattle.ia32_types.specs.Forms.{reg_of, sign_extended, high_digit, middle_digit, low_digit}
+use Rattle.ia32_types.specs.Numbers.{reg_of}
+use Rattle.ia32_types.specs.Forms.{sign_extended, high_digit, middle_digit, low_digit}
 
 -- a displacement of 0, 1 or 4 bytes; of one byte its sign is kept
 abbrev pub displacement : ℕ → Reader ℕ

@@ -3,6 +3,7 @@
 #![tactic(auto)]
 
 ghost use Rattle.std.specs.Prelude.{ℕ, ◌≡◌, ◌<◌};
+ghost use Rattle.ia32_types.specs.Numbers.{reg_number, reg_of, flag_number, flag_of};
 
 use std::marker::Model;
 
@@ -30,6 +31,45 @@ pub enum Reg {
     Edi,
 }
 
+impl Reg {
+    /// Its number, below 8.
+    #[tactic(auto, using(crate::proofs::NumberLemmas::reg_number_below, crate::proofs::NumberLemmas::reg_of_number))]
+    pub fn number(self) -> u8
+        ensures value { result ≡ reg_number self }
+        ensures below { result < 8 }
+        ensures back { reg_of result ≡ self }
+    {
+        match self {
+            Reg::Eax => 0,
+            Reg::Ecx => 1,
+            Reg::Edx => 2,
+            Reg::Ebx => 3,
+            Reg::Esp => 4,
+            Reg::Ebp => 5,
+            Reg::Esi => 6,
+            Reg::Edi => 7,
+        }
+    }
+
+    /// The register of a number below 8.
+    #[tactic(auto, using(crate::proofs::NumberLemmas::number_of_reg))]
+    pub fn from_number(number: u8) -> Reg
+        ensures value { result ≡ reg_of number }
+        ensures back { number < 8 → reg_number result ≡ number }
+    {
+        match number {
+            0 => Reg::Eax,
+            1 => Reg::Ecx,
+            2 => Reg::Edx,
+            3 => Reg::Ebx,
+            4 => Reg::Esp,
+            5 => Reg::Ebp,
+            6 => Reg::Esi,
+            _ => Reg::Edi,
+        }
+    }
+}
+
 /// A flag of EFLAGS.
 #[derive(Clone, Copy, Debug, PartialEq, Eq)]
 pub enum Flag {
@@ -45,6 +85,41 @@ pub enum Flag {
     Of,
     /// Direction.
     Df,
+}
+
+impl Flag {
+    /// Its number in the order of the variants, below 6.
+    #[tactic(auto, using(crate::proofs::NumberLemmas::flag_number_below, crate::proofs::NumberLemmas::flag_of_number))]
+    pub fn number(self) -> u8
+        ensures value { result ≡ flag_number self }
+        ensures below { result < 6 }
+        ensures back { flag_of result ≡ self }
+    {
+        match self {
+            Flag::Cf => 0,
+            Flag::Pf => 1,
+            Flag::Zf => 2,
+            Flag::Sf => 3,
+            Flag::Of => 4,
+            Flag::Df => 5,
+        }
+    }
+
+    /// The flag of a number below 6.
+    #[tactic(auto, using(crate::proofs::NumberLemmas::number_of_flag))]
+    pub fn from_number(number: u8) -> Flag
+        ensures value { result ≡ flag_of number }
+        ensures back { number < 6 → flag_number result ≡ number }
+    {
+        match number {
+            0 => Flag::Cf,
+            1 => Flag::Pf,
+            2 => Flag::Zf,
+            3 => Flag::Sf,
+            4 => Flag::Of,
+            _ => Flag::Df,
+        }
+    }
 }
 
 /// The width of an operation in bits: 8, 16 or 32.

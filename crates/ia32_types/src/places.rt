@@ -3,6 +3,7 @@
 ghost use Rattle.std.specs.Prelude.{◌≡◌, ◌∷◌, [], ◌++◌, option_to_list};
 ghost use Rattle.std.specs.Int.RustNames.{bit_or};
 ghost use Rattle.ia32_types.specs.Places.{reg_bits, flag_bits, address_of as address_spec, value_of as value_spec, place_of as place_spec, target_of as target_spec, product_reads as product_reads_spec, product_writes as product_writes_spec, quotient_places as quotient_spec, imul_reads as imul_reads_spec, imul_writes as imul_writes_spec, op_reads as op_reads_spec, op_writes as op_writes_spec, cond_flags as cond_flags_spec, is_by_zero as is_by_zero_spec, op_flag_reads as op_flag_reads_spec, op_flag_writes as op_flag_writes_spec, arithmetic_flags, registers_read, registers_written, flags_read, flags_written};
+ghost use Rattle.ia32_types.specs.Sets.{HasRegs, HasFlags};
 
 use crate::{Cond, FlagSet, Instr, Mem, Op, Operand, Reg, RegSet, Width};
 
@@ -15,7 +16,7 @@ fn no_reg() -> RegSet
 }
 
 /// One register.
-#[tactic(auto, using(crate::proofs::SetLaws::bits_of_one))]
+#[tactic(auto, using(crate::proofs::SetLemmas::bits_of_one))]
 fn one_reg(reg: Reg) -> RegSet
     ensures { result.0 ≡ reg_bits (reg ∷ []) }
 {
@@ -23,7 +24,7 @@ fn one_reg(reg: Reg) -> RegSet
 }
 
 /// A register and those of a set.
-#[tactic(auto, using(crate::proofs::SetLaws::bits_of_more))]
+#[tactic(auto, using(crate::proofs::SetLemmas::bits_of_more))]
 fn two_regs(a: Reg, b: Reg) -> RegSet
     ensures { result.0 ≡ reg_bits (a ∷ b ∷ []) }
 {
@@ -41,7 +42,7 @@ fn some_reg(reg: Option<Reg>) -> RegSet
 }
 
 /// The registers of an address.
-#[tactic(auto, using(crate::proofs::SetLaws::bits_of_both))]
+#[tactic(auto, using(crate::proofs::SetLemmas::bits_of_both))]
 fn address_of(memory: &Mem) -> RegSet
     ensures { result.0 ≡ reg_bits (address_spec memory.now) }
 {
@@ -125,7 +126,7 @@ fn quotient_places(width: Width) -> RegSet
 }
 
 /// What both operands read where their values are.
-#[tactic(auto, using(crate::proofs::SetLaws::bits_of_both))]
+#[tactic(auto, using(crate::proofs::SetLemmas::bits_of_both))]
 fn values_of(dst: &Option<Operand>, src: &Option<Operand>) -> RegSet
     ensures { result.0 ≡ reg_bits (value_spec dst.now ++ value_spec src.now) }
 {
@@ -133,7 +134,7 @@ fn values_of(dst: &Option<Operand>, src: &Option<Operand>) -> RegSet
 }
 
 /// What is read where the first operand is written and the second is a value.
-#[tactic(auto, using(crate::proofs::SetLaws::bits_of_both))]
+#[tactic(auto, using(crate::proofs::SetLemmas::bits_of_both))]
 fn moved(width: Width, dst: &Option<Operand>, src: &Option<Operand>) -> RegSet
     ensures { result.0 ≡ reg_bits (place_spec width dst.now ++ value_spec src.now) }
 {
@@ -141,7 +142,7 @@ fn moved(width: Width, dst: &Option<Operand>, src: &Option<Operand>) -> RegSet
 }
 
 /// What a form of imul reads.
-#[tactic(auto, using(crate::proofs::SetLaws::bits_of_both))]
+#[tactic(auto, using(crate::proofs::SetLemmas::bits_of_both))]
 fn imul_reads(i: &Instr) -> RegSet
     ensures { result.0 ≡ reg_bits (imul_reads_spec i.now.width i.now.dst i.now.src i.now.imm) }
 {
@@ -165,7 +166,7 @@ fn imul_writes(i: &Instr) -> RegSet
 }
 
 /// What a string instruction reads.
-#[tactic(auto, using(crate::proofs::SetLaws::bits_of_more))]
+#[tactic(auto, using(crate::proofs::SetLemmas::bits_of_more))]
 fn three_regs(a: Reg, b: Reg, c: Reg) -> RegSet
     ensures { result.0 ≡ reg_bits (a ∷ b ∷ c ∷ []) }
 {
@@ -175,8 +176,16 @@ fn three_regs(a: Reg, b: Reg, c: Reg) -> RegSet
 /// The registers that an instruction reads: its sources, the registers of its addresses, ESP or EBP where
 /// it uses the stack, and a register of which it writes a part. Of a repeated string instruction, those of
 /// a count other than 0.
-#[tactic(auto, using(crate::proofs::SetLaws::bits_of_both), unfolding(crate::specs::Places::op_reads))]
+#[tactic(auto, using(crate::proofs::SetLemmas::has_regs))]
 pub fn reg_reads(i: &Instr) -> RegSet
+    ensures bits { result.0 ≡ reg_bits (registers_read i.now) }
+    ensures members { HasRegs result (registers_read i.now) }
+{
+    read_regs(i)
+}
+
+#[tactic(auto, using(crate::proofs::SetLemmas::bits_of_both), unfolding(crate::specs::Places::op_reads))]
+fn read_regs(i: &Instr) -> RegSet
     ensures { result.0 ≡ reg_bits (registers_read i.now) }
 {
     match i.op {
@@ -207,8 +216,16 @@ pub fn reg_reads(i: &Instr) -> RegSet
 
 /// The registers that an instruction writes, whole or in part. Of a repeated string instruction, those of a
 /// count other than 0.
-#[tactic(auto, using(crate::proofs::SetLaws::bits_of_both), unfolding(crate::specs::Places::op_writes))]
+#[tactic(auto, using(crate::proofs::SetLemmas::has_regs))]
 pub fn reg_writes(i: &Instr) -> RegSet
+    ensures bits { result.0 ≡ reg_bits (registers_written i.now) }
+    ensures members { HasRegs result (registers_written i.now) }
+{
+    written_regs(i)
+}
+
+#[tactic(auto, using(crate::proofs::SetLemmas::bits_of_both), unfolding(crate::specs::Places::op_writes))]
+fn written_regs(i: &Instr) -> RegSet
     ensures { result.0 ≡ reg_bits (registers_written i.now) }
 {
     match i.op {
@@ -281,8 +298,16 @@ fn is_by_zero(count: &Option<Operand>) -> bool
 
 /// The flags that an instruction reads: those of its condition, the carry of `Adc` and `Sbb`, and DF of a
 /// string instruction.
-#[tactic(auto, unfolding(crate::specs::Places::op_flag_reads, crate::specs::Places::flag_bits))]
+#[tactic(auto, using(crate::proofs::SetLemmas::has_flags))]
 pub fn flag_reads(i: &Instr) -> FlagSet
+    ensures bits { result.0 ≡ flag_bits (flags_read i.now) }
+    ensures members { HasFlags result (flags_read i.now) }
+{
+    read_flags(i)
+}
+
+#[tactic(auto, unfolding(crate::specs::Places::op_flag_reads, crate::specs::Places::flag_bits))]
+fn read_flags(i: &Instr) -> FlagSet
     ensures { result.0 ≡ flag_bits (flags_read i.now) }
 {
     match i.op {
@@ -296,8 +321,16 @@ pub fn flag_reads(i: &Instr) -> FlagSet
 }
 
 /// The flags that an instruction may write, also those that it leaves undefined.
-#[tactic(auto, unfolding(crate::specs::Places::op_flag_writes, crate::specs::Places::flag_bits))]
+#[tactic(auto, using(crate::proofs::SetLemmas::has_flags))]
 pub fn flag_writes(i: &Instr) -> FlagSet
+    ensures bits { result.0 ≡ flag_bits (flags_written i.now) }
+    ensures members { HasFlags result (flags_written i.now) }
+{
+    written_flags(i)
+}
+
+#[tactic(auto, unfolding(crate::specs::Places::op_flag_writes, crate::specs::Places::flag_bits))]
+fn written_flags(i: &Instr) -> FlagSet
     ensures { result.0 ≡ flag_bits (flags_written i.now) }
 {
     match i.op {

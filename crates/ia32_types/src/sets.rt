@@ -1,8 +1,11 @@
 //! Sets of registers and of flags, as bits.
 
-ghost use Rattle.std.specs.Prelude.{⊤, ◌≡◌, ◌==◌, [], ◌∷◌, codes};
-ghost use Rattle.std.specs.Int.RustNames.{bit_and, bit_or};
-ghost use Rattle.ia32_types.specs.Sets.{reg_bit, flag_bit};
+ghost use Rattle.std.specs.Prelude.{⊤, ◌≡◌, ◌||◌, [], ◌∷◌, codes};
+ghost use Rattle.std.specs.Int.RustNames.{bit_or};
+ghost use Rattle.ia32_types.specs.declared.Reg.{Reg};
+ghost use Rattle.ia32_types.specs.declared.Flag.{Flag};
+ghost use Rattle.ia32_types.specs.Numbers.{is_same_reg, is_same_flag};
+ghost use Rattle.ia32_types.specs.Sets.{reg_bit, flag_bit, has_reg, has_flag};
 
 use crate::{Flag, Reg};
 use bitflags::{Flag as NamedFlag, Flags, bitflag_items};
@@ -48,8 +51,10 @@ impl Flags for RegSet {
 
 impl RegSet {
     /// The set of one register.
+    #[tactic(auto, using(crate::proofs::SetLemmas::has_reg_alone))]
     pub fn only(reg: Reg) -> RegSet
-        ensures { result.0 ≡ reg_bit reg }
+        ensures bits { result.0 ≡ reg_bit reg }
+        ensures members { (x : Reg) → has_reg result x ≡ is_same_reg x reg }
     {
         match reg {
             Reg::Eax => RegSet::EAX,
@@ -65,14 +70,16 @@ impl RegSet {
 
     /// Whether the register is in the set.
     pub fn has(self, reg: Reg) -> bool
-        ensures { result ≡ (bit_and self.0 (reg_bit reg) == reg_bit reg) }
+        ensures { result ≡ has_reg self reg }
     {
         self.contains(RegSet::only(reg))
     }
 
-    /// The registers of both sets.
+    /// The registers of either set.
+    #[tactic(auto, using(crate::proofs::SetLemmas::has_reg_of_both))]
     pub fn with(self, other: RegSet) -> RegSet
-        ensures { result.0 ≡ bit_or self.0 other.0 }
+        ensures bits { result.0 ≡ bit_or self.0 other.0 }
+        ensures members { (x : Reg) → has_reg result x ≡ (has_reg self x || has_reg other x) }
     {
         self.union(other)
     }
@@ -117,8 +124,10 @@ impl Flags for FlagSet {
 
 impl FlagSet {
     /// The set of one flag.
+    #[tactic(auto, using(crate::proofs::SetLemmas::has_flag_alone))]
     pub fn only(flag: Flag) -> FlagSet
-        ensures { result.0 ≡ flag_bit flag }
+        ensures bits { result.0 ≡ flag_bit flag }
+        ensures members { (x : Flag) → has_flag result x ≡ is_same_flag x flag }
     {
         match flag {
             Flag::Cf => FlagSet::CF,
@@ -132,14 +141,16 @@ impl FlagSet {
 
     /// Whether the flag is in the set.
     pub fn has(self, flag: Flag) -> bool
-        ensures { result ≡ (bit_and self.0 (flag_bit flag) == flag_bit flag) }
+        ensures { result ≡ has_flag self flag }
     {
         self.contains(FlagSet::only(flag))
     }
 
-    /// The flags of both sets.
+    /// The flags of either set.
+    #[tactic(auto, using(crate::proofs::SetLemmas::has_flag_of_both))]
     pub fn with(self, other: FlagSet) -> FlagSet
-        ensures { result.0 ≡ bit_or self.0 other.0 }
+        ensures bits { result.0 ≡ bit_or self.0 other.0 }
+        ensures members { (x : Flag) → has_flag result x ≡ (has_flag self x || has_flag other x) }
     {
         self.union(other)
     }

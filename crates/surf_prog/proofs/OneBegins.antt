@@ -2,7 +2,7 @@
 use Rattle.std.proofs.Common.{◌≡◌, ◌⊎◌, inl, inr, ⊎_elim, ℕ, List, [], ◌∷◌, ◌++◌, refl, sym, ◌∙◌, ap, subst}
 use Rattle.ia32_types.specs.declared.Instr.{Instr}
 use Rattle.ia32_types.specs.Spells.{Spells, Begins}
-use Rattle.ia32_types.proofs.SpellsLaws.{one_spelling}
+use Rattle.ia32_types.proofs.SpellsLemmas.{one_spelling}
 
 -- one of two fronts of a list goes on from the other
 either_front : (xs ys us vs : List ℕ) → xs ++ us ≡ ys ++ vs → ((r : List ℕ) × (ys ≡ xs ++ r)) ⊎ ((r : List ℕ) × (xs ≡ ys ++ r))

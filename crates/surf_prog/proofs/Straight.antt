@@ -12,7 +12,7 @@ use Rattle.ia32_types.specs.declared.Reg.TheVariants.{Eax, Ecx, Edx, Ebx, Esp, E
 use Rattle.ia32_types.specs.Sets.{reg_bit}
 use Rattle.ia32_types.specs.Places.{reg_bits, flag_bits, op_flag_reads, registers_read, registers_written}
 use Rattle.ia32_types.specs.Spells.{Spells, Begins}
-use Rattle.ia32_types.proofs.SpellsLaws.{one_spelling, not_empty, mov_number_spelled, mov_register_spelled, add_register_spelled, near_return_spelled, mov_register_spells, add_register_spells}
+use Rattle.ia32_types.proofs.SpellsLemmas.{one_spelling, not_empty, mov_number_spelled, mov_register_spelled, add_register_spelled, near_return_spelled, mov_register_spells, add_register_spells}
 use Rattle.surf_prog.specs.Slicer.{IsSlice}
 use Rattle.surf_prog.specs.StraightCode.{Lists, IsStraight, AreStraight, straight_graph, is_move_or_add, is_return, is_register_form, names_esp, most_instructions}
 use Rattle.surf_prog.proofs.Places.{flag_reads_of}

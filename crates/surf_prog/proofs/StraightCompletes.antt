@@ -4,7 +4,7 @@ use Rattle.std.specs.Prelude.{Bool, true, false, ◌⊎◌}
 use Rattle.std.proofs.lemmas.Bool.{false≢true}
 use Rattle.ia32_types.specs.declared.Op.TheVariants as op
 use Rattle.ia32_types.specs.declared.Instr.{Instr}
-use Rattle.ia32_types.proofs.SpellsLaws.{near_return}
+use Rattle.ia32_types.proofs.SpellsLemmas.{near_return}
 use Rattle.surf_prog.specs.StraightCode.{Lists}
 use Rattle.image_map.specs.declared.image.Image.{Image}
 use Rattle.surf_prog.specs.Fetch.{IsFetched}

@@ -5,7 +5,7 @@ use Rattle.std.proofs.lemmas.Bool.{cases_lt}
 use Rattle.std.proofs.lemmas.List.{take_at, take-append-drop, take-take, take-append-le, length-take-le, length-take, length-drop, get_or-drop}
 use Rattle.ia32_types.specs.declared.Instr.{Instr}
 use Rattle.ia32_types.specs.Spells.{Spells, Begins}
-use Rattle.ia32_types.proofs.SpellsLaws.{one_spelling}
+use Rattle.ia32_types.proofs.SpellsLemmas.{one_spelling}
 use Rattle.image_map.specs.declared.image.Image.{Image}
 use Rattle.image_map.specs.Queries.{byte_at, is_code}
 use Rattle.surf_prog.specs.Fetch.{code_byte, begun_by, code_run, longest_instruction, fetch_window, IsFetched}

@@ -11,7 +11,7 @@ use Rattle.ia32_types.specs.declared.Flag.{Flag}
 use Rattle.ia32_types.specs.declared.Flag.TheVariants.{Cf, Pf, Zf, Sf, Of, Df}
 use Rattle.ia32_types.specs.Sets.{reg_bit, flag_bit}
 use Rattle.ia32_types.specs.Places.{reg_bits, flag_bits}
-use Rattle.ia32_types.proofs.SpellsLaws.{below_eight}
+use Rattle.ia32_types.proofs.NumberLemmas.{below_eight}
 use Rattle.surf_prog.specs.StraightCode.{has_bit, places}
 use Rattle.surf_prog.specs.Ia32Machine.{register_number}
 use Rattle.surf_prog.specs.Ia32Run.{is_register_of, flag_number, is_flag_of}

@@ -8,7 +8,7 @@ use borrow.Author.Tests.{leb-true, eqb-true}
 use Rattle.ia32_types.specs.declared.Op.TheVariants as op
 use Rattle.ia32_types.specs.declared.Instr.{Instr}
 use Rattle.ia32_types.specs.Spells.{Spells}
-use Rattle.ia32_types.proofs.SpellsLaws.{one_spelling, not_empty, mov_number_spelled, mov_register_spelled, add_register_spelled, near_return_spelled, mov_register_spells, add_register_spells, mov_number, mov_register, add_register, near_return}
+use Rattle.ia32_types.proofs.SpellsLemmas.{one_spelling, not_empty, mov_number_spelled, mov_register_spelled, add_register_spelled, near_return_spelled, mov_register_spells, add_register_spells, mov_number, mov_register, add_register, near_return}
 use Rattle.surf_prog.specs.StraightCode.{is_register_form, is_move_or_add, is_return, Lists}
 use Rattle.image_map.specs.declared.image.Image.{Image}
 use Rattle.surf_prog.specs.ImageMapState.{State, esp, word_at}

@@ -1,4 +1,4 @@
-use Rattle.ia32_types.proofs.SpellsLaws.{one_spelling}
+use Rattle.ia32_types.proofs.SpellsLemmas.{one_spelling}
 use Rattle.ia32_types.proofs.laws.one_spelling.Goals as goal
 
 pub returns : goal.returns

@@ -13,10 +13,12 @@ use Rattle.ia32_types.specs.declared.forms.Form.{Form}
 use Rattle.ia32_types.specs.declared.forms.Parts.{Parts}
 use Rattle.ia32_types.specs.Readers.{Reader, done, Accepts, quad}
 use Rattle.ia32_types.specs.Rows.{row_00, row_80, row_c0, string_form}
-use Rattle.ia32_types.specs.Forms.{plain, binary, finished, reg_of, high_digit, low_digit, middle_digit}
+use Rattle.ia32_types.specs.Numbers.{reg_of}
+use Rattle.ia32_types.specs.Forms.{plain, binary, finished, high_digit, low_digit, middle_digit}
 use Rattle.ia32_types.specs.Prefixes.{no_prefixes, next_prefixes}
 use Rattle.ia32_types.specs.Spells.{Spells, Begins, instruction, prefixed, opened, simple, formed, addressed, ending}
-use Rattle.ia32_types.proofs.ReaderLaws.{one_reading, in_two, done_reads}
+use Rattle.ia32_types.proofs.NumberLemmas.{below_eight}
+use Rattle.ia32_types.proofs.ReaderLemmas.{one_reading, in_two, done_reads}
 
 -- bytes spell one instruction at most, and no spelling begins another
 pub one_spelling : (bytes rest : List ℕ) (at : ℕ) (i j : Instr) → Spells bytes at i → Spells (bytes ++ rest) at j → (rest ≡ []) × (i ≡ j)
@@ -25,18 +27,6 @@ one_spelling bytes rest at i j p q =
     let none : length rest ≡ 0 = ap length r.0 in
     let long : length bytes ≡ length (bytes ++ rest) = omega (arith, length-append bytes rest) in
     (r.0, p.is ∙ ap (λ n. finished at n p.parts) long ∙ ap (λ v. finished at (length (bytes ++ rest)) v) r.1 ∙ sym q.is)
-
--- what holds of the numbers below 8
-pub below_eight : (P : ℕ → Type 0) → P 0 → P 1 → P 2 → P 3 → P 4 → P 5 → P 6 → P 7 → (n : ℕ) → n < 8 → P n
-below_eight P a b c d e f g h zero lt = a
-below_eight P a b c d e f g h (suc zero) lt = b
-below_eight P a b c d e f g h (suc (suc zero)) lt = c
-below_eight P a b c d e f g h (suc (suc (suc zero))) lt = d
-below_eight P a b c d e f g h (suc (suc (suc (suc zero)))) lt = e
-below_eight P a b c d e f g h (suc (suc (suc (suc (suc zero))))) lt = f
-below_eight P a b c d e f g h (suc (suc (suc (suc (suc (suc zero)))))) lt = g
-below_eight P a b c d e f g h (suc (suc (suc (suc (suc (suc (suc zero))))))) lt = h
-below_eight P a b c d e f g h (suc (suc (suc (suc (suc (suc (suc (suc n)))))))) lt = absurd (omega arith)
 
 -- the four bytes of a number
 pub record FourBytes (bytes : List ℕ) (n : ℕ) : Type 0 where
