@@ -6,7 +6,8 @@ use Rattle.ia32_types.specs.declared.Reg.{Reg}
 use Rattle.ia32_types.specs.declared.Width.TheVariants.{D32}
 use Rattle.ia32_types.specs.declared.Mem.{Mem}
 use Rattle.ia32_types.specs.Readers.{Reader, done, bad, more, then_, octet, pair, quad, number}
-use Rattle.ia32_types.specs.Forms.{reg_of, low_digit, middle_digit, high_digit, sign_extended}
+use Rattle.ia32_types.specs.Numbers.{reg_of}
+use Rattle.ia32_types.specs.Forms.{low_digit, middle_digit, high_digit, sign_extended}
 use Rattle.ia32_types.specs.Memory.{displacement, disp_bytes, displaced, index_of, index_scale, indexed, memory}
 use Rattle.ia32_decode.proofs.Honest.{IsHonest, fewest, AtMost}
 

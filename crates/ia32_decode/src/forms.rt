@@ -1,7 +1,7 @@
 //! What the operands of a form are, given the parts of an instruction.
 
 ghost use Rattle.std.specs.Prelude.{◌≡◌, ◌+◌, ◌-◌, ◌<◌, ◌≤◌, option_map};
-ghost use Rattle.ia32_types.specs.Forms.{plain as plain_form, unary as unary_form, binary as binary_form, ternary as ternary_form, width_of as width_spec, width_bytes as width_bytes_spec, reg_of as reg_spec, reg_operand as reg_operand_spec, sign_extended as sign_extended_spec, slot_bytes as slot_bytes_spec, some_slot_bytes as some_slot_bytes_spec, form_bytes as form_bytes_spec, has_modrm as has_modrm_spec, slot_has_modrm as slot_has_modrm_spec, reg_mem as reg_mem_spec, is_gs as is_gs_spec, operand_of as operand_spec, third_of as third_spec, finished as finished_spec, parts_width as parts_width_spec, width_limit, is_memory as is_memory_spec, is_offset as is_offset_spec, is_long as is_long_spec, writes_first as writes_first_spec, stores as stores_spec};
+ghost use Rattle.ia32_types.specs.Forms.{plain as plain_form, unary as unary_form, binary as binary_form, ternary as ternary_form, width_of as width_spec, width_bytes as width_bytes_spec, reg_operand as reg_operand_spec, sign_extended as sign_extended_spec, slot_bytes as slot_bytes_spec, some_slot_bytes as some_slot_bytes_spec, form_bytes as form_bytes_spec, has_modrm as has_modrm_spec, slot_has_modrm as slot_has_modrm_spec, reg_mem as reg_mem_spec, is_gs as is_gs_spec, operand_of as operand_spec, third_of as third_spec, finished as finished_spec, parts_width as parts_width_spec, width_limit, is_memory as is_memory_spec, is_offset as is_offset_spec, is_long as is_long_spec, writes_first as writes_first_spec, stores as stores_spec};
 
 use ia32_types::forms::{Form, Parts, Segment, Size, Slot};
 use ia32_types::{Instr, Mem, Op, Operand, Reg, Width};
@@ -81,22 +81,6 @@ fn width_bytes(width: Width) -> u8
     }
 }
 
-/// The general register of a number below 8.
-pub fn reg_of(n: u8) -> Reg
-    ensures { result ≡ reg_spec n }
-{
-    match n {
-        0 => Reg::Eax,
-        1 => Reg::Ecx,
-        2 => Reg::Edx,
-        3 => Reg::Ebx,
-        4 => Reg::Esp,
-        5 => Reg::Ebp,
-        6 => Reg::Esi,
-        _ => Reg::Edi,
-    }
-}
-
 /// The register of a number below 8, at a width.
 fn reg_operand(width: Width, n: u8) -> Operand
     ensures { result ≡ reg_operand_spec width n }
@@ -104,13 +88,13 @@ fn reg_operand(width: Width, n: u8) -> Operand
     match width {
         Width::B8 => {
             if n < 4 {
-                Operand::Reg(reg_of(n))
+                Operand::Reg(Reg::from_number(n))
             } else {
-                Operand::High(reg_of(n - 4))
+                Operand::High(Reg::from_number(n - 4))
             }
         }
-        Width::W16 => Operand::Reg(reg_of(n)),
-        Width::D32 => Operand::Reg(reg_of(n)),
+        Width::W16 => Operand::Reg(Reg::from_number(n)),
+        Width::D32 => Operand::Reg(Reg::from_number(n)),
     }
 }
 

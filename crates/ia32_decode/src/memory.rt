@@ -6,7 +6,7 @@ ghost use Rattle.ia32_decode.specs.Reading.{run};
 
 use crate::NotDecoded;
 use crate::bytes::{next_byte, octet, quad};
-use crate::forms::{reg_of, sign_extended};
+use crate::forms::sign_extended;
 use ia32_types::{Mem, Reg, Width};
 
 /// A displacement of 0, 1 or 4 bytes, where at least `extra` bytes follow it.
@@ -86,7 +86,7 @@ fn scale_of(n: u8) -> u8
 fn index_of(n: u8) -> Option<Reg>
     ensures { result ≡ index_of_spec n }
 {
-    if n == 4 { None } else { Some(reg_of(n)) }
+    if n == 4 { None } else { Some(Reg::from_number(n)) }
 }
 
 /// The scale of an index.
@@ -120,7 +120,7 @@ fn indexed(
         displaced(bytes, read, extra, gs, &sum, 4)
     } else {
         let sum = Sum {
-            base: Some(reg_of(sib % 8)),
+            base: Some(Reg::from_number(sib % 8)),
             index,
             scale,
         };
@@ -153,7 +153,7 @@ pub fn memory(
         displaced(bytes, read, extra, gs, &sum, 4)
     } else {
         let sum = Sum {
-            base: Some(reg_of(modrm % 8)),
+            base: Some(Reg::from_number(modrm % 8)),
             index: None,
             scale: 1,
         };

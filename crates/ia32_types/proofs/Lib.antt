@@ -1,3 +1,8 @@
+pub mod InstructionLemmas
+pub mod RowLemmas
+pub mod FormLemmas
+pub mod OperandLemmas
+pub mod EveryLemmas
 pub mod NumberLemmas
 pub mod ReaderLemmas
 pub mod SetLemmas

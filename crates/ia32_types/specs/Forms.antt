@@ -1,7 +1,6 @@
 -- What the operands of a form are, given the parts of an instruction (SDM volume 2, 2.1 and appendix A).
 
-use Rattle.std.specs.Prelude.{ℕ, ◌+◌, ◌-◌, ◌/◌, ◌%◌, Bool, true, false, ◌==◌, nat_lt, ◌||◌, ◌&&◌, if◌then◌else◌, Option, Some, None, option_map}
-use Rattle.ia32_types.specs.declared.Reg.{Reg}
+use Rattle.std.specs.Prelude.{ℕ, ◌+◌, ◌-◌, ◌/◌, ◌%◌, Bool, true, false, nat_lt, ◌||◌, ◌&&◌, if◌then◌else◌, Option, Some, None, option_map}
 use Rattle.ia32_types.specs.declared.Reg.TheVariants.{Ecx}
 use Rattle.ia32_types.specs.declared.Width.{Width}
 use Rattle.ia32_types.specs.declared.Width.TheVariants.{B8, W16, D32}

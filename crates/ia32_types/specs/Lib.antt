@@ -7,3 +7,4 @@ pub mod Memory
 pub mod Prefixes
 pub mod Spells
 pub mod Places
+pub mod Operands

@@ -14,7 +14,7 @@ mod sets;
 #[cfg(test)]
 mod tests;
 
-pub use laws::one_spelling;
+pub use laws::{one_number, one_spelling, spelled_instruction};
 pub use places::{flag_reads, flag_writes, reg_reads, reg_writes};
 pub use sets::{FlagSet, RegSet};
 
