@@ -3,3 +3,7 @@ pub mod Shift
 pub mod Product
 pub mod Division
 pub mod Condition
+pub mod State
+pub mod Machine
+pub mod Runs
+pub mod Dependence

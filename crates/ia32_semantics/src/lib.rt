@@ -3,5 +3,7 @@
 #![tactic(auto)]
 
 mod flags;
+mod state;
 
 pub use flags::{FlagOut, Flags, FlagsOut};
+pub use state::Alloc;

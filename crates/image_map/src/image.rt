@@ -4,10 +4,10 @@ ghost use Rattle.image_map.specs.Memory.{holds, has_flag, segment_at, byte_of};
 ghost use Rattle.image_map.specs.Queries.{byte_at as byte_there, is_code as code_there, is_writable as writable_there};
 ghost use Rattle.image_map.specs.Names.{extern_number, value_of};
 
-use item_list::Items;
 use crate::name::Name;
 use crate::spans::Spans;
 use crate::symbols::Symbols;
+use item_list::Items;
 
 /// The flag of a segment whose bytes are code (System V ABI, ELF: `PF_X`).
 pub const PF_X: u32 = 1;
