@@ -1,1 +1,2 @@
 mod AluRows
+mod RowTests

@@ -7,3 +7,14 @@ pub mod State
 pub mod Machine
 pub mod Runs
 pub mod Dependence
+pub mod Reading
+pub mod Effects
+pub mod Outcome
+pub mod Operands
+pub mod Strings
+pub mod Rows
+pub mod Externs
+pub mod Fetch
+pub mod Step
+pub mod CallModel
+pub mod Ia32

@@ -3,10 +3,10 @@
 -- the project's own.
 --
 -- Registers, flags and memory are functions, so that a change of one location is `put`, and all others stay by computation.
-use Rattle.std.specs.Prelude.{◌≡◌, ℕ, zero, suc, ◌+◌, ◌*◌, ◌<◌, ◌^◌, ◌==◌, ◌&&◌, not, nat_le, nat_lt, if◌then◌else◌, Bool, true, List, [], ◌∷◌, Option, Some, None, option_map}
+use Rattle.std.specs.Prelude.{◌≡◌, ℕ, zero, suc, ◌+◌, ◌*◌, ◌<◌, ◌^◌, ◌==◌, ◌&&◌, not, nat_lt, if◌then◌else◌, Bool, true, List, [], ◌∷◌, Option, Some, None, option_map}
 use Rattle.image_map.specs.declared.region.Activation.{Activation}
 use Rattle.image_map.specs.declared.region.Block.{Block}
-use Rattle.ia32_semantics.specs.declared.state.Alloc.{Alloc}
+use Rattle.ia32_semantics.specs.declared.state.Allocation.{Allocation}
 
 -- the byte at each address, and none where the address isn't mapped
 abbrev pub Bytes : Type 0
@@ -24,7 +24,7 @@ pub record State : Type 0 where
   -- the oldest first
   pub blocks : List Block
   -- the oldest first
-  pub allocs : List Alloc
+  pub allocs : List Allocation
   -- the address of the entry's return slot
   pub slot : ℕ
 
@@ -55,10 +55,6 @@ SameAt (AtByte address) s t = s.memory address ≡ t.memory address
 -- a function with its value at one place changed
 abbrev pub put : {A : Type 0} → (ℕ → A) → ℕ → A → ℕ → A
 put f place value n = if place == n then value else f n
-
--- an address is one of the n from a on
-abbrev pub is_among : ℕ → ℕ → ℕ → Bool
-is_among a n address = nat_le a address && nat_lt address (a + n)
 
 -- -- Numbers in memory
 

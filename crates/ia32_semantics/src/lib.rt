@@ -6,4 +6,4 @@ mod flags;
 mod state;
 
 pub use flags::{FlagOut, Flags, FlagsOut};
-pub use state::Alloc;
+pub use state::Allocation;
