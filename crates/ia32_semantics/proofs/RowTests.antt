@@ -24,7 +24,7 @@ use Rattle.ia32_semantics.specs.Division.{dividend, unsigned_division, signed_as
 use Rattle.ia32_semantics.specs.Condition.{even_condition, holds}
 use Rattle.ia32_semantics.specs.Operands.{whole_register, flag_value, any_word, stored_number, register_or_zero, address, memory_value, value, value_of, store, store_to, any_flag, any_flags, condition_flags, condition}
 use Rattle.ia32_semantics.specs.Strings.{stepped, movs_effects, stos_effects, repeated}
-use Rattle.ia32_semantics.specs.Rows.{row, carry_in, dividend_halves, quotient_or_fault, extra_bytes, activation}
+use Rattle.ia32_semantics.specs.Rows.{row, carry_in, dividend_halves, quotient_or_fault, extra_bytes, immediate, activation}
 use Rattle.ia32_semantics.specs.Effects.{with_part, Whole, sets, stores, bytes_from, overwritten}
 use Rattle.ia32_semantics.specs.Externs.{words_from, any_results, any_words, number_over, any_prefix, extern_row}
 
@@ -260,7 +260,7 @@ call_enters = refl
 
 -- ret 8 pops the word and eight bytes more
 ret_more : row_outcome op.Ret (one D32 (operand.Imm 8)) plain [] ≡ Some (record (going (sets Whole 4 0x200C ∷ []) 0x04030201) { calls = leaves; forgets = Some 0x200C }, [])
-unfolding row value_of value store_to store with_part whole_register stored_number extra_bytes
+unfolding row value_of value store_to store with_part whole_register stored_number extra_bytes immediate
 ret_more = refl
 
 -- an extern that fills the return word returns to what it filled

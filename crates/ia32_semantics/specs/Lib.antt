@@ -18,3 +18,4 @@ pub mod Fetch
 pub mod Step
 pub mod CallModel
 pub mod Ia32
+pub mod Laws

@@ -24,16 +24,18 @@ flag n more >>= next = flag n (λ v. more v >>= next)
 byte a more >>= next = byte a (λ v. more v >>= next)
 choice more >>= next = choice (λ v. more v >>= next)
 
+-- what a byte leads to, where there is one
+abbrev pub with_byte : {A : Type 0} → Option ℕ → A → (ℕ → A) → A
+with_byte None otherwise next = otherwise
+with_byte (Some v) otherwise next = next v
+
 -- What it gives in a state with these words of choice, and the words that are left; none where it faults.
 abbrev pub outcome : {A : Type 0} → Reading A → State → List ℕ → Option (A × List ℕ)
 outcome (gives x) s words = Some (x, words)
 outcome faults s words = None
 outcome (register n more) s words = outcome (more (s.registers n)) s words
 outcome (flag n more) s words = outcome (more (s.flags n)) s words
-outcome (byte a more) s words = elim (s.memory a) [
-  | None ↦ None
-  | Some v ↦ outcome (more v) s words
-]
+outcome (byte a more) s words = with_byte (s.memory a) None (λ v. outcome (more v) s words)
 outcome (choice more) s [] = None
 outcome (choice more) s (word ∷ words) = outcome (more word) s words
 
@@ -55,9 +57,6 @@ asks (gives x) s words l = false
 asks faults s words l = false
 asks (register n more) s words l = is_register n l || asks (more (s.registers n)) s words l
 asks (flag n more) s words l = is_flag n l || asks (more (s.flags n)) s words l
-asks (byte a more) s words l = is_byte a l || elim (s.memory a) [
-  | None ↦ false
-  | Some v ↦ asks (more v) s words l
-]
+asks (byte a more) s words l = is_byte a l || with_byte (s.memory a) false (λ v. asks (more v) s words l)
 asks (choice more) s [] l = false
 asks (choice more) s (word ∷ words) l = asks (more word) s words l

@@ -232,10 +232,15 @@ called i = do
 abbrev pub returning : List Effect → ℕ → ℕ → Outcome
 returning effects sp place = record (going (effects ++ (sets Whole 4 sp ∷ [])) place) { calls = leaves; forgets = Some (sp % 2 ^ 32) }
 
+-- the number of an operand that is one
+unfoldable pub immediate : Option Operand → Reading ℕ
+immediate (Some (operand.Imm n)) = gives n
+immediate _ = faults
+
 -- how many bytes a ret takes beside the return word
 unfoldable pub extra_bytes : Option Operand → Reading ℕ
 extra_bytes None = gives 0
-extra_bytes (Some o) = value_of D32 (Some o)
+extra_bytes (Some o) = immediate (Some o)
 
 abbrev pub returned : Instr → Reading Outcome
 returned i = do
@@ -250,7 +255,7 @@ jumped i = value_of i.width i.dst >>= (λ target. gives (going [] target))
 abbrev pub branched : ℕ → Instr → Reading Outcome
 branched c i = do
   holds ← condition c
-  target ← value_of i.width i.dst
+  target ← immediate i.dst
   gives (going [] (if holds then target else next_place i))
 
 -- -- The table
