@@ -17,7 +17,7 @@ use crate::fields::{
     ProgramHeader, Relocation, SectionHeader, SymbolEntry, SymbolId, relocation_at,
 };
 use crate::memory::Memory;
-use image_map::{EXTERN_BASE, EXTERN_STEP};
+use image_map::extern_address;
 use std::alloc::{AllocError, Global};
 
 // Kinds of relocations (`R_386_`).
@@ -137,8 +137,8 @@ fn symbol_value(bias: u32, externs: &[SymbolId], r: &Relocation, symbol: &Symbol
         return symbol.st_value.wrapping_add(bias);
     }
     match number_of(externs, &r.id) {
-        Some(number) => EXTERN_BASE + EXTERN_STEP * number as u32,
-        None => EXTERN_BASE,
+        Some(number) => extern_address(number as u32),
+        None => extern_address(0),
     }
 }
 

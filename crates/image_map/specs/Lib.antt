@@ -4,3 +4,6 @@ pub mod Names
 pub mod Whole
 pub mod Queries
 pub mod Hashes
+pub mod Regions
+pub mod CallModel
+pub mod TotalOrders

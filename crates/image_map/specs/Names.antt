@@ -5,16 +5,15 @@ use Rattle.std.specs.Str.{bytes_eq}
 use Rattle.std.specs.List.Sorted.{IsNonDecreasingBy}
 use Rattle.image_map.specs.declared.symbols.Symbol.{Symbol}
 use Rattle.image_map.specs.Hashes.{hash_of}
-use Rattle.image_map.specs.declared.image.TheConstants.{EXTERN_BASE, EXTERN_STEP}
 
 -- where extern number i stands
 abbrev pub extern_address : ℕ → ℕ
-extern_address i = EXTERN_BASE + EXTERN_STEP * i
+extern_address i = 0xF0000000 + 16 * i
 
 -- of `count` externs, the number of the one that stands at an address
 unfoldable pub extern_number : ℕ → ℕ → Option ℕ
 extern_number count a =
-    if nat_lt a EXTERN_BASE then None else (if (a - EXTERN_BASE) % EXTERN_STEP == 0 then (if nat_lt ((a - EXTERN_BASE) / EXTERN_STEP) count then Some ((a - EXTERN_BASE) / EXTERN_STEP) else None) else None)
+    if nat_lt a 0xF0000000 then None else (if (a - 0xF0000000) % 16 == 0 then (if nat_lt ((a - 0xF0000000) / 16) count then Some ((a - 0xF0000000) / 16) else None) else None)
 
 -- the value of the first symbol with a name
 abbrev pub value_of : List Symbol → List ℕ → Option ℕ

@@ -2,7 +2,6 @@
 -- program header, "Segment flag bits".
 use Rattle.std.specs.Prelude.{ℕ, Bool, Option, is_some}
 use Rattle.image_map.specs.declared.image.Image.{Image}
-use Rattle.image_map.specs.declared.image.TheConstants.{PF_W, PF_X}
 use Rattle.image_map.specs.Memory.{segment_at, byte_of, is_in}
 
 -- the byte at an address: none outside the segments, and none where any byte may stand
@@ -13,10 +12,10 @@ byte_at image a = byte_of image.segments image.any_bytes a
 abbrev pub is_in_segment : Image → ℕ → Bool
 is_in_segment image a = is_some (segment_at image.segments a)
 
--- an address lies in a segment with code
+-- an address lies in a segment with code (PF_X)
 abbrev pub is_code : Image → ℕ → Bool
-is_code image a = is_in image.segments PF_X a
+is_code image a = is_in image.segments 1 a
 
--- an address lies in a segment that may be written
+-- an address lies in a segment that may be written (PF_W)
 abbrev pub is_writable : Image → ℕ → Bool
-is_writable image a = is_in image.segments PF_W a
+is_writable image a = is_in image.segments 2 a

@@ -2,7 +2,6 @@
 use Rattle.std.specs.Prelude.{ℕ, ◌+◌, ◌≤◌, ◌≡◌, ◌⊎◌, false, ◌&&◌, List, [], ◌∷◌, length}
 use Rattle.image_map.specs.declared.image.Segment.{Segment}
 use Rattle.image_map.specs.declared.image.Image.{Image}
-use Rattle.image_map.specs.declared.image.TheConstants.{PF_W, PF_X}
 use Rattle.image_map.specs.Memory.{has_flag}
 
 -- the address behind a segment's last byte
@@ -18,11 +17,11 @@ abbrev pub IsApartFrom : List Segment → Segment → Type 0
 IsApartFrom [] s = Unit {0}
 IsApartFrom (t ∷ ts) s = AreApart t s × IsApartFrom ts s
 
--- a segment lies in [0x1000, 0x7FFFFFFF), and isn't both code and open to writes
+-- a segment lies in [0x1000, 0x7FFFFFFF), and isn't both open to writes (PF_W) and code (PF_X)
 pub record IsPlaced (s : Segment) : Type 0 where
   pub low : 0x1000 ≤ s.start
   pub high : end_of s ≤ 0x7FFFFFFF
-  pub flags : (has_flag PF_W s && has_flag PF_X s) ≡ false
+  pub flags : (has_flag 2 s && has_flag 1 s) ≡ false
 
 -- each segment is placed, and shares no address with the ones after it
 abbrev pub ArePlaced : List Segment → Type 0

@@ -1,8 +1,8 @@
-ghost use Rattle.std.specs.Prelude.{◌≡◌, ◌≤◌, length};
+ghost use Rattle.std.specs.Prelude.{◌≡◌, ℕ, ◌<◌, ◌≤◌, Some, length, IfSome};
 ghost use Rattle.std.specs.Option.{option_copied};
 ghost use Rattle.image_map.specs.Memory.{holds, has_flag, segment_at, byte_of};
 ghost use Rattle.image_map.specs.Queries.{byte_at as byte_there, is_code as code_there, is_writable as writable_there};
-ghost use Rattle.image_map.specs.Names.{extern_number, value_of};
+ghost use Rattle.image_map.specs.Names.{extern_address as extern_address_spec, extern_number, value_of};
 
 use crate::name::Name;
 use crate::spans::Spans;
@@ -19,10 +19,10 @@ pub const PF_W: u32 = 2;
 pub const PF_R: u32 = 4;
 
 /// The address at which the first extern stands.
-pub const EXTERN_BASE: u32 = 0xF000_0000;
+const EXTERN_BASE: u32 = 0xF000_0000;
 
 /// How far two neighbouring externs stand apart.
-pub const EXTERN_STEP: u32 = 16;
+const EXTERN_STEP: u32 = 16;
 
 /// A run of memory of the image: its first address, its bytes, and its `PF_` flags.
 #[derive(Drop)]
@@ -40,7 +40,7 @@ pub struct Extern {
 
 /// An executable as it stands in memory before its first instruction.
 ///
-/// Extern number i stands at `EXTERN_BASE + EXTERN_STEP * i`. The bytes in `any_bytes` may have any
+/// Extern number i stands at `extern_address(i)`. The bytes in `any_bytes` may have any
 /// content. `words` lists the places of the words that relocations wrote, in their order.
 #[derive(Drop)]
 pub struct Image {
@@ -83,6 +83,14 @@ pub fn memory_byte(segments: &[Segment], any_bytes: &Spans, address: u32) -> Opt
         .copied()
 }
 
+/// The address at which the extern with a number stands. An image has at most 1,024 externs.
+pub fn extern_address(number: u32) -> u32
+    requires { number < 1024 }
+    ensures { result ≡ extern_address_spec number }
+{
+    EXTERN_BASE + EXTERN_STEP * number
+}
+
 impl Image {
     /// The byte at an address, or `None` where no segment has it or it may be any byte.
     pub fn byte_at(&self, address: u32) -> Option<u8>
@@ -114,7 +122,11 @@ impl Image {
     /// The number of the extern that stands at an address.
     #[tactic(auto, unfolding(crate::specs::Names::extern_number))]
     pub fn extern_at(&self, address: u32) -> Option<u32>
-        ensures { result ≡ extern_number (length self.now.externs) address }
+        ensures number { result ≡ extern_number (length self.now.externs) address }
+        // The extern stands at the address.
+        ensures there { IfSome result (λ i. (i < length self.now.externs) × (extern_address_spec i ≡ address)) }
+        // Each extern is found at its address.
+        ensures found { (i : ℕ) → i < length self.now.externs → extern_address_spec i ≡ address → result ≡ Some i }
     {
         if address < EXTERN_BASE {
             return None;

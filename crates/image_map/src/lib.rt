@@ -13,8 +13,7 @@ mod tests;
 
 pub use hash::{EMPTY_HASH, hash_before, hash_of};
 pub use image::{
-    EXTERN_BASE, EXTERN_STEP, Extern, Image, PF_R, PF_W, PF_X, Segment, memory_byte,
-    segment_holding,
+    Extern, Image, PF_R, PF_W, PF_X, Segment, extern_address, memory_byte, segment_holding,
 };
 pub use name::Name;
 pub use region::{Activation, Block, Cell, Kind, RegionId, Settings};

@@ -1,6 +1,6 @@
 use crate::{
-    EMPTY_HASH, EXTERN_BASE, Extern, Image, Name, PF_R, PF_W, PF_X, RegionId, Segment, Span, Spans,
-    Symbol, Symbols, hash_before, hash_of,
+    Cell, EMPTY_HASH, Extern, Image, Kind, Name, PF_R, PF_W, PF_X, RegionId, Segment, Settings,
+    Span, Spans, Symbol, Symbols, extern_address, hash_before, hash_of,
 };
 use item_list::Items;
 use std::alloc::{AllocError, Global};
@@ -62,10 +62,11 @@ fn queries_read_the_image(rt: HostRuntime) {
     assert!(rt; !image.is_code(0x1005));
     assert!(rt; image.is_writable(0x1003));
     assert!(rt; !image.is_writable(0x1002));
-    assert_eq!(rt; image.extern_at(EXTERN_BASE), Some(0));
-    assert_eq!(rt; image.extern_at(EXTERN_BASE + 8), None);
-    assert_eq!(rt; image.extern_at(EXTERN_BASE + 16), None);
+    assert_eq!(rt; image.extern_at(0xF000_0000), Some(0));
+    assert_eq!(rt; image.extern_at(0xF000_0008), None);
+    assert_eq!(rt; image.extern_at(0xF000_0010), None);
     assert_eq!(rt; image.extern_at(0x1000), None);
+    assert_eq!(rt; extern_address(1), 0xF000_0010);
     assert_eq!(rt; image.symbol(b"main"), Some(1));
     assert_eq!(rt; image.symbol(b"init"), Some(2));
     assert_eq!(rt; image.symbol(b"mai"), None);
@@ -113,6 +114,41 @@ fn regions_are_ordered(rt: HostRuntime) {
         RegionId::OldHeap(0),
     ];
     for (low, high) in rising.iter().zip(&rising[1..]) {
-        assert!(rt; low < high);
+        assert!(rt; low < high && low.is_before(high) && low != high);
     }
+}
+
+#[test]
+fn cells_are_ordered(rt: HostRuntime) {
+    let cell = |region, start, end| Cell { region, start, end };
+    let rising = [
+        cell(RegionId::Global, 9, 12),
+        cell(RegionId::Heap(7), -4, -3),
+        cell(RegionId::Heap(7), -4, 0),
+        cell(RegionId::Heap(7), 0, 1),
+        cell(RegionId::Heap(8), -8, -4),
+    ];
+    for (low, high) in rising.iter().zip(&rising[1..]) {
+        assert!(rt; low < high && low.is_before(high) && low != high);
+    }
+}
+
+#[test]
+fn settings_have_a_kind_for_each_extern(rt: HostRuntime) {
+    let alloc = rt.alloc();
+    let kinds = [
+        Kind::Pure(0),
+        Kind::Reader(8),
+        Kind::Fills(1, 8),
+        Kind::Alloc,
+    ];
+    let settings = Settings {
+        entry: 0x1000,
+        rounds: 8,
+        kinds: Items::from_slice(alloc, &kinds).expect(&rt, "memory"),
+    };
+    assert!(rt; settings.are_valid(4));
+    assert!(rt; !settings.are_valid(5));
+    assert!(rt; !Kind::Fills(0, 8).is_valid());
+    assert!(rt; !Kind::Reader(9).is_valid());
 }

@@ -1,7 +1,7 @@
 //! What each kind of relocation makes of a word, alone and after others.
 
 use super::{BIAS, DATA, EXECUTABLE, SHARED_OBJECT, read, relocated};
-use image_map::{EXTERN_BASE, Image};
+use image_map::Image;
 
 /// The word at `DATA` before any relocation.
 const BEFORE: u32 = 0x0707_0707;
@@ -40,11 +40,11 @@ fn applies_each_kind(rt: HostRuntime) {
         (&[NONE], Some(BEFORE)),
         (&[ADD_SYMBOL], Some(BEFORE + 0x1234)),
         (&[ADD_SYMBOL, ADD_SYMBOL], Some(BEFORE + 0x2468)),
-        (&[ADD_EXTERN], Some(BEFORE.wrapping_add(EXTERN_BASE))),
+        (&[ADD_EXTERN], Some(BEFORE.wrapping_add(0xF000_0000))),
         (&[COPY], None),
         (&[GLOB_DAT], Some(0x1234)),
         (&[JMP_SLOT], Some(0x1234)),
-        (&[EXTERN_SLOT], Some(EXTERN_BASE)),
+        (&[EXTERN_SLOT], Some(0xF000_0000)),
         (&[RELATIVE], Some(BEFORE)),
         (&[COPY, NONE], None),
         (&[COPY, ADD_SYMBOL], None),
@@ -76,7 +76,7 @@ fn moves_what_shared_objects_relocate(rt: HostRuntime) {
         (COPY, None),
         (GLOB_DAT, Some(BIAS + 0x1234)),
         (JMP_SLOT, Some(BIAS + 0x1234)),
-        (EXTERN_SLOT, Some(EXTERN_BASE)),
+        (EXTERN_SLOT, Some(0xF000_0000)),
         (RELATIVE, Some(BEFORE + BIAS)),
     ];
     for (info, word) in cases {
@@ -138,7 +138,7 @@ fn numbers_externs_by_first_use(rt: HostRuntime) {
     ];
     let bytes = relocated(alloc, EXECUTABLE, &relocations).expect(&rt, "memory");
     let image = read(alloc, &bytes).ok().expect(&rt, "an image");
-    for (offset, word) in [(0, EXTERN_BASE), (4, EXTERN_BASE + 16), (8, EXTERN_BASE)] {
+    for (offset, word) in [(0, 0xF000_0000), (4, 0xF000_0010), (8, 0xF000_0000)] {
         assert_eq!(rt; word_at(&image, DATA + offset), Some(word));
     }
     let names = [b"exit", b"puts"];
