@@ -57,7 +57,12 @@ shl_nine_flags : shift_flags 8 op.Shl 0xFF 9 ≡ flags flag.Undefined (set true)
 unfolding shift_flags shift_flags_by left_flags shifted_left result_flags sign has_even_parity ones
 shl_nine_flags = refl
 
--- by 8 its last bit is the last one lost, and CF is undefined as by 9; by 33 it is shifted by 1
+-- by 8, the width, CF is undefined as by 9
+shl_eight_flags : shift_flags 8 op.Shl 0xFF 8 ≡ flags flag.Undefined (set true) (set true) (set false) flag.Undefined
+unfolding shift_flags shift_flags_by left_flags shifted_left result_flags sign has_even_parity ones
+shl_eight_flags = refl
+
+-- by 33 it is shifted by 1
 shl_one_flags : shift_flags 8 op.Shl 0xC0 33 ≡ flags (set true) (set false) (set false) (set true) (set false)
 unfolding shift_flags shift_flags_by left_flags shifted_left result_flags sign has_even_parity ones
 shl_one_flags = refl

@@ -124,6 +124,9 @@ bytes_after o i s words a n = option_map (λ (t : State). bytes_from t.memory a 
 abbrev extern_place : Kind → State → List ℕ → Option ℕ
 extern_place k s words = option_map (λ (d : Outcome × List ℕ). d.0.place) (outcome (extern_row 0xF0000000 k) s words)
 
+abbrev extern_register : Kind → State → List ℕ → ℕ → Option ℕ
+extern_register k s words n = option_map (λ (t : State). t.registers n) (state_after (outcome (extern_row 0xF0000000 k) s words) s)
+
 -- -- Rows
 
 -- adc al, cl: FF + FF + 1; the other bytes of EAX stay
@@ -267,3 +270,8 @@ ret_more = refl
 fills_return : extern_place (kind.Fills 1 2) filling (5 ∷ 6 ∷ 7 ∷ 0 ∷ 0 ∷ 0 ∷ 0 ∷ 0 ∷ 2 ∷ 0xAB ∷ 0xCD ∷ []) ≡ Some 0x0403CDAB
 unfolding extern_row any_results any_word any_flags any_flag division_flags whole_register words_from stored_number any_prefix any_words number_over
 fills_return = refl
+
+-- an extern leaves any word in ECX, and takes its return word
+extern_clobbers : extern_register (kind.Pure 0) plain (5 ∷ 6 ∷ 7 ∷ 0 ∷ 0 ∷ 0 ∷ 0 ∷ 0 ∷ []) 1 ≡ Some 6
+unfolding extern_row any_results any_word any_flags any_flag division_flags whole_register words_from stored_number with_part
+extern_clobbers = refl

@@ -4,7 +4,7 @@ ghost use Rattle.image_map.specs.declared.image.Image.{Image};
 ghost use Rattle.image_map.specs.declared.region.Settings.{Settings};
 ghost use Rattle.ia32_semantics.specs.Ia32.{machine};
 ghost use Rattle.ia32_semantics.specs.Runs.{BeginningsAreRuns};
-ghost use Rattle.ia32_semantics.specs.Laws.{StartsAreWhole, ChangesOnlyWrites, WritesFollowReads, StepsStaySized, StepsStayLaidOut, DependsOnLastWriters};
+ghost use Rattle.ia32_semantics.specs.Laws.{StartsAreWhole, ChangesOnlyWrites, WritesFollowReads, StepsStaySized, StepsStayLaidOut, StepsKeepToTables, DependsOnLastWriters};
 
 /// A state in which a run starts is whole.
 pub fn starts_are_whole()
@@ -39,4 +39,10 @@ pub fn steps_stay_laid_out()
 /// What is read and was written before, and not forgotten since, depends on its last writer.
 pub fn depends_on_last_writers()
     ensures { (image : Image) (settings : Settings) → DependsOnLastWriters (machine image settings) }
+{}
+
+/// What a step of an instruction reads and writes of registers and flags is what its tables say, and what they
+/// say is written is, unless it is repeated no times or shifted by 0.
+pub fn steps_keep_to_tables()
+    ensures { StepsKeepToTables }
 {}

@@ -9,6 +9,6 @@ mod state;
 pub use flags::{FlagOut, Flags, FlagsOut};
 pub use laws::{
     beginnings_are_runs, changes_only_writes, depends_on_last_writers, starts_are_whole,
-    steps_stay_laid_out, steps_stay_sized, writes_follow_reads,
+    steps_keep_to_tables, steps_stay_laid_out, steps_stay_sized, writes_follow_reads,
 };
 pub use state::Allocation;
