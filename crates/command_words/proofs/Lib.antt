@@ -1,0 +1,4 @@
+pub mod NumeralLemmas
+pub mod TextLemmas
+pub mod ExternLemmas
+pub mod GrammarLemmas

@@ -1,0 +1,8 @@
+use Rattle.std.proofs.Common.{arith}
+use Rattle.clap.specs.Simple.{app_of}
+use Rattle.command_words.specs.Grammar.{option}
+use Rattle.command_words.proofs.GrammarLemmas.{one_more}
+use Rattle.command_words.proofs.grammar.with_options.Goals as goal
+
+pub names-preserved : goal.names-preserved
+names-preserved c = one_more option (app_of c.args.command) (app_of c.names.command) (app_of c.in_ok-command.command) c.args.names.now c.names.name-index _ (omega arith) c.names.invariant c.in_ok-command.ensures
