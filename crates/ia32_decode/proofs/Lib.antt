@@ -1,7 +1,7 @@
-pub mod RunLaws
-pub mod Honest
-pub mod FrontLaws
-pub mod HonestParts
-pub mod HonestRows
-pub mod HonestGrammar
-pub mod DecodedLaws
+pub mod RunLemmas
+pub mod HonestLemmas
+pub mod FrontLemmas
+pub mod HonestPartLemmas
+pub mod HonestRowLemmas
+pub mod HonestGrammarLemmas
+pub mod DecodedLemmas

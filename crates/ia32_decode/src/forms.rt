@@ -1,7 +1,7 @@
 //! What the operands of a form are, given the parts of an instruction.
 
 ghost use Rattle.std.specs.Prelude.{◌≡◌, ◌+◌, ◌-◌, ◌<◌, ◌≤◌, option_map};
-ghost use Rattle.ia32_types.specs.Forms.{plain as plain_form, unary as unary_form, binary as binary_form, ternary as ternary_form, width_of as width_spec, width_bytes as width_bytes_spec, reg_operand as reg_operand_spec, sign_extended as sign_extended_spec, slot_bytes as slot_bytes_spec, some_slot_bytes as some_slot_bytes_spec, form_bytes as form_bytes_spec, has_modrm as has_modrm_spec, slot_has_modrm as slot_has_modrm_spec, reg_mem as reg_mem_spec, is_gs as is_gs_spec, operand_of as operand_spec, third_of as third_spec, finished as finished_spec, parts_width as parts_width_spec, width_limit, is_memory as is_memory_spec, is_offset as is_offset_spec, is_long as is_long_spec, writes_first as writes_first_spec, stores as stores_spec};
+ghost use Rattle.ia32_types.specs.Forms.{plain as plain_form, unary as unary_form, binary as binary_form, ternary as ternary_form, width_of as width_spec, width_bytes as width_bytes_spec, reg_operand as reg_operand_spec, sign_extended as sign_extended_spec, slot_bytes as slot_bytes_spec, some_slot_bytes as some_slot_bytes_spec, form_bytes as form_bytes_spec, has_modrm as has_modrm_spec, slot_has_modrm as slot_has_modrm_spec, reg_mem as reg_mem_spec, is_gs as is_gs_spec, operand_of as operand_spec, third_of as third_spec, finished as finished_spec, parts_width as parts_width_spec, width_limit, is_memory as is_memory_spec, is_offset as is_offset_spec, is_dword as is_long_spec, writes_first as writes_first_spec, stores as stores_spec};
 
 use ia32_types::forms::{Form, Parts, Segment, Size, Slot};
 use ia32_types::{Instr, Mem, Op, Operand, Reg, Width};
@@ -65,7 +65,7 @@ pub fn width_of(size: Size, operand16: bool) -> Width
     match size {
         Size::Byte => Width::B8,
         Size::Full => { if operand16 { Width::W16 } else { Width::D32 } }
-        Size::Long => Width::D32,
+        Size::Dword => Width::D32,
         Size::Any => Width::D32,
     }
 }
@@ -186,10 +186,10 @@ pub fn is_offset(slot: Option<Slot>) -> bool
 }
 
 /// Whether the prefix 66 is refused.
-pub fn is_long(size: Size) -> bool
+pub fn is_dword(size: Size) -> bool
     ensures { result ≡ is_long_spec size }
 {
-    matches!(size, Size::Long)
+    matches!(size, Size::Dword)
 }
 
 /// Whether an operation writes its first operand.

@@ -8,7 +8,7 @@ ghost use Rattle.ia32_decode.specs.Reading.{run};
 use crate::NotDecoded;
 use crate::bytes::{next_byte, number};
 use crate::forms::{
-    form_bytes, has_modrm, is_gs, is_long, is_memory, is_offset, plain, stores, width_of,
+    form_bytes, has_modrm, is_gs, is_dword, is_memory, is_offset, plain, stores, width_of,
 };
 use crate::memory::memory;
 use crate::prefixes::{bytes_after, is_prefix, next_prefixes, no_prefixes};
@@ -20,7 +20,7 @@ use ia32_types::{Mem, Op};
 type Read = Result<(Parts, u8), NotDecoded>;
 
 /// The number at the end, after all else.
-#[tactic(auto, using(crate::proofs::RunLaws::run_then))]
+#[tactic(auto, using(crate::proofs::RunLemmas::run_then))]
 fn ending(
     bytes: &[u8],
     read: u8,
@@ -63,7 +63,7 @@ fn refuses_memory(prefixes: &Prefixes, form: &Form) -> bool
 }
 
 /// Memory, and the number at the end.
-#[tactic(auto, using(crate::proofs::RunLaws::run_then))]
+#[tactic(auto, using(crate::proofs::RunLemmas::run_then))]
 fn in_memory(bytes: &[u8], read: u8, prefixes: &Prefixes, form: &Form, modrm: u8) -> Read
     ensures { result ≡ run 0 (in_memory_reader prefixes.now form.now modrm) bytes.now read }
 {
@@ -94,7 +94,7 @@ fn addressed(bytes: &[u8], read: u8, prefixes: &Prefixes, form: &Form, modrm: u8
 fn is_refused(prefixes: &Prefixes, form: &Form) -> bool
     ensures { result ≡ is_refused_spec prefixes.now form.now }
 {
-    prefixes.operand16 && is_long(form.size)
+    prefixes.operand16 && is_dword(form.size)
         || is_offset(form.first) && is_read_only(prefixes.segment)
 }
 
@@ -270,7 +270,7 @@ fn opened(bytes: &[u8], read: u8, prefixes: &Prefixes, opcode: u8) -> Read
         }
         Repeat::Last => match opcode {
             0xC3 => {
-                let form = plain(Op::Ret, Size::Long);
+                let form = plain(Op::Ret, Size::Dword);
                 formed(bytes, read, prefixes, &form)
             }
             0x0F => endbr32(bytes, read, prefixes),

@@ -5,12 +5,12 @@ ghost use Rattle.ia32_types.specs.Memory.{displacement as displacement_reader, d
 ghost use Rattle.ia32_decode.specs.Reading.{run};
 
 use crate::NotDecoded;
-use crate::bytes::{next_byte, octet, quad};
+use crate::bytes::{next_byte, byte, dword};
 use crate::forms::sign_extended;
 use ia32_types::{Mem, Reg, Width};
 
 /// A displacement of 0, 1 or 4 bytes, where at least `extra` bytes follow it.
-#[tactic(auto, using(crate::proofs::RunLaws::run_then))]
+#[tactic(auto, using(crate::proofs::RunLemmas::run_then))]
 fn displacement(bytes: &[u8], read: u8, count: u8, extra: u8) -> Result<(u32, u8), NotDecoded>
     requires { extra < 20 }
     ensures gives { result ≡ run extra (displacement_reader count) bytes.now read }
@@ -19,19 +19,19 @@ fn displacement(bytes: &[u8], read: u8, count: u8, extra: u8) -> Result<(u32, u8
     match count {
         0 => Ok((0, read)),
         1 => {
-            let (n, read) = octet(bytes, read, extra)?;
+            let (n, read) = byte(bytes, read, extra)?;
             Ok((sign_extended(Width::D32, u32::from(n)), read))
         }
-        _ => quad(bytes, read, extra),
+        _ => dword(bytes, read, extra),
     }
 }
 
-/// How many bytes of displacement the high digit of ModRM asks for.
-fn disp_bytes(high: u8) -> u8
-    ensures bytes { result ≡ disp_bytes_spec high }
+/// How many bytes of displacement ModRM's mod field asks for.
+fn disp_bytes(mod_field: u8) -> u8
+    ensures bytes { result ≡ disp_bytes_spec mod_field }
     ensures few { result ≤ 4 }
 {
-    match high {
+    match mod_field {
         0 => 0,
         1 => 1,
         _ => 4,
@@ -47,7 +47,7 @@ struct Sum {
 }
 
 /// The displacement after base, index and scale.
-#[tactic(auto, using(crate::proofs::RunLaws::run_then), unfolding(ia32_types::specs::Memory::displaced))]
+#[tactic(auto, using(crate::proofs::RunLemmas::run_then), unfolding(ia32_types::specs::Memory::displaced))]
 fn displaced(
     bytes: &[u8],
     read: u8,
@@ -70,7 +70,7 @@ fn displaced(
     Ok((memory, read))
 }
 
-/// 2 to the power of a digit.
+/// 2 to the power of SIB's scale field.
 fn scale_of(n: u8) -> u8
     ensures { result ≡ scale_of_spec n }
 {
@@ -82,7 +82,7 @@ fn scale_of(n: u8) -> u8
     }
 }
 
-/// The index register of a digit, where 4 is none.
+/// The register of SIB's index field, where 4 is none.
 fn index_of(n: u8) -> Option<Reg>
     ensures { result ≡ index_of_spec n }
 {
@@ -90,28 +90,28 @@ fn index_of(n: u8) -> Option<Reg>
 }
 
 /// The scale of an index.
-fn index_scale(n: u8, high: u8) -> u8
-    ensures { result ≡ index_scale_spec n high }
+fn index_scale(n: u8, scale_field: u8) -> u8
+    ensures { result ≡ index_scale_spec n scale_field }
 {
-    if n == 4 { 1 } else { scale_of(high) }
+    if n == 4 { 1 } else { scale_of(scale_field) }
 }
 
-/// What follows SIB, where `high` is the high digit of ModRM.
+/// What follows SIB, after this mod field.
 #[tactic(auto, unfolding(ia32_types::specs::Memory::indexed))]
 fn indexed(
     bytes: &[u8],
     read: u8,
     extra: u8,
     gs: bool,
-    high: u8,
+    mod_field: u8,
     sib: u8,
 ) -> Result<(Mem, u8), NotDecoded>
     requires { extra < 20 }
-    ensures { result ≡ run extra (indexed_reader gs high sib) bytes.now read }
+    ensures { result ≡ run extra (indexed_reader gs mod_field sib) bytes.now read }
 {
     let index = index_of(sib / 8 % 8);
     let scale = index_scale(sib / 8 % 8, sib / 64);
-    if sib % 8 == 5 && high == 0 {
+    if sib % 8 == 5 && mod_field == 0 {
         let sum = Sum {
             base: None,
             index,
@@ -124,11 +124,11 @@ fn indexed(
             index,
             scale,
         };
-        displaced(bytes, read, extra, gs, &sum, disp_bytes(high))
+        displaced(bytes, read, extra, gs, &sum, disp_bytes(mod_field))
     }
 }
 
-/// The memory that a ModRM byte with a high digit below 3 names, where at least `extra` bytes follow it.
+/// The memory that a ModRM byte with a mod field below 3 names, where at least `extra` bytes follow it.
 #[tactic(auto, unfolding(ia32_types::specs::Memory::memory))]
 pub fn memory(
     bytes: &[u8],
@@ -140,11 +140,11 @@ pub fn memory(
     requires { extra < 20 }
     ensures { result ≡ run extra (memory_reader gs modrm) bytes.now read }
 {
-    let high = modrm / 64;
+    let mod_field = modrm / 64;
     if modrm % 8 == 4 {
-        let (sib, read) = next_byte(bytes, read, 1 + disp_bytes(high) + extra)?;
-        indexed(bytes, read, extra, gs, high, sib)
-    } else if modrm % 8 == 5 && high == 0 {
+        let (sib, read) = next_byte(bytes, read, 1 + disp_bytes(mod_field) + extra)?;
+        indexed(bytes, read, extra, gs, mod_field, sib)
+    } else if modrm % 8 == 5 && mod_field == 0 {
         let sum = Sum {
             base: None,
             index: None,
@@ -157,6 +157,6 @@ pub fn memory(
             index: None,
             scale: 1,
         };
-        displaced(bytes, read, extra, gs, &sum, disp_bytes(high))
+        displaced(bytes, read, extra, gs, &sum, disp_bytes(mod_field))
     }
 }

@@ -57,11 +57,11 @@ fn row_40(opcode: u8) -> Row
     match opcode {
         0x40..=0x47 => Row::One(unary(Op::Inc, Size::Full, Slot::Fixed(opcode - 0x40))),
         0x48..=0x4F => Row::One(unary(Op::Dec, Size::Full, Slot::Fixed(opcode - 0x48))),
-        0x50..=0x57 => Row::One(unary(Op::Push, Size::Long, Slot::Fixed(opcode - 0x50))),
-        0x58..=0x5F => Row::One(unary(Op::Pop, Size::Long, Slot::Fixed(opcode - 0x58))),
-        0x68 => Row::One(unary(Op::Push, Size::Long, Slot::Imm)),
+        0x50..=0x57 => Row::One(unary(Op::Push, Size::Dword, Slot::Fixed(opcode - 0x50))),
+        0x58..=0x5F => Row::One(unary(Op::Pop, Size::Dword, Slot::Fixed(opcode - 0x58))),
+        0x68 => Row::One(unary(Op::Push, Size::Dword, Slot::Imm)),
         0x69 => Row::One(ternary(Op::Imul, Size::Full, Slot::Reg, Slot::RegMem, Slot::Imm)),
-        0x6A => Row::One(unary(Op::Push, Size::Long, Slot::SignedImm8)),
+        0x6A => Row::One(unary(Op::Push, Size::Dword, Slot::SignedImm8)),
         0x6B => Row::One(ternary(
             Op::Imul,
             Size::Full,
@@ -69,7 +69,7 @@ fn row_40(opcode: u8) -> Row
             Slot::RegMem,
             Slot::SignedImm8,
         )),
-        0x70..=0x7F => Row::One(unary(Op::Jcc(Cond::new(opcode - 0x70)), Size::Long, Slot::Rel8)),
+        0x70..=0x7F => Row::One(unary(Op::Jcc(Cond::new(opcode - 0x70)), Size::Dword, Slot::Rel8)),
         _ => Row::Missing,
     }
 }
@@ -91,7 +91,7 @@ fn row_80(opcode: u8) -> Row
         0x89 => Row::One(binary(Op::Mov, Size::Full, Slot::RegMem, Slot::Reg)),
         0x8A => Row::One(binary(Op::Mov, Size::Byte, Slot::Reg, Slot::RegMem)),
         0x8B => Row::One(binary(Op::Mov, Size::Full, Slot::Reg, Slot::RegMem)),
-        0x8D => Row::One(binary(Op::Lea, Size::Long, Slot::Reg, Slot::Memory)),
+        0x8D => Row::One(binary(Op::Lea, Size::Dword, Slot::Reg, Slot::Memory)),
         0x8F => Row::Grouped(Group::Pop),
         0x90 => Row::One(plain(Op::Nop, Size::Any)),
         0x91..=0x97 => Row::One(binary(
@@ -100,8 +100,8 @@ fn row_80(opcode: u8) -> Row
             Slot::Fixed(0),
             Slot::Fixed(opcode - 0x90),
         )),
-        0x98 => Row::One(plain(Op::Cwde, Size::Long)),
-        0x99 => Row::One(plain(Op::Cdq, Size::Long)),
+        0x98 => Row::One(plain(Op::Cwde, Size::Dword)),
+        0x99 => Row::One(plain(Op::Cdq, Size::Dword)),
         0xA0 => Row::One(binary(Op::Mov, Size::Byte, Slot::Fixed(0), Slot::Offset)),
         0xA1 => Row::One(binary(Op::Mov, Size::Full, Slot::Fixed(0), Slot::Offset)),
         0xA2 => Row::One(binary(Op::Mov, Size::Byte, Slot::Offset, Slot::Fixed(0))),
@@ -122,19 +122,19 @@ fn row_c0(opcode: u8) -> Row
     match opcode {
         0xC0 => Row::Grouped(Group::Shift8(Count::Imm8)),
         0xC1 => Row::Grouped(Group::Shift(Count::Imm8)),
-        0xC2 => Row::One(unary(Op::Ret, Size::Long, Slot::Imm16)),
-        0xC3 => Row::One(plain(Op::Ret, Size::Long)),
+        0xC2 => Row::One(unary(Op::Ret, Size::Dword, Slot::Imm16)),
+        0xC3 => Row::One(plain(Op::Ret, Size::Dword)),
         0xC6 => Row::Grouped(Group::Mov8),
         0xC7 => Row::Grouped(Group::Mov),
-        0xC9 => Row::One(plain(Op::Leave, Size::Long)),
+        0xC9 => Row::One(plain(Op::Leave, Size::Dword)),
         0xCC => Row::One(plain(Op::Int3, Size::Any)),
         0xD0 => Row::Grouped(Group::Shift8(Count::One)),
         0xD1 => Row::Grouped(Group::Shift(Count::One)),
         0xD2 => Row::Grouped(Group::Shift8(Count::Cl)),
         0xD3 => Row::Grouped(Group::Shift(Count::Cl)),
-        0xE8 => Row::One(unary(Op::Call, Size::Long, Slot::Rel32)),
-        0xE9 => Row::One(unary(Op::Jmp, Size::Long, Slot::Rel32)),
-        0xEB => Row::One(unary(Op::Jmp, Size::Long, Slot::Rel8)),
+        0xE8 => Row::One(unary(Op::Call, Size::Dword, Slot::Rel32)),
+        0xE9 => Row::One(unary(Op::Jmp, Size::Dword, Slot::Rel32)),
+        0xEB => Row::One(unary(Op::Jmp, Size::Dword, Slot::Rel8)),
         0xF4 => Row::One(plain(Op::Hlt, Size::Any)),
         0xF6 => Row::Grouped(Group::Unary8),
         0xF7 => Row::Grouped(Group::Unary),
@@ -175,7 +175,7 @@ pub fn row_0f(opcode: u8) -> Row
             Slot::Reg,
             Slot::RegMem,
         )),
-        0x80..=0x8F => Row::One(unary(Op::Jcc(Cond::new(opcode - 0x80)), Size::Long, Slot::Rel32)),
+        0x80..=0x8F => Row::One(unary(Op::Jcc(Cond::new(opcode - 0x80)), Size::Dword, Slot::Rel32)),
         0x90..=0x9F => Row::One(unary(
             Op::Setcc(Cond::new(opcode - 0x90)),
             Size::Byte,
@@ -204,7 +204,7 @@ pub fn string_form(rep: bool, opcode: u8) -> Option<Form>
     }
 }
 
-/// The shifts and rotates by ModRM's middle digit.
+/// The shifts and rotates by ModRM's reg field.
 fn shift_op(n: u8) -> Option<Op>
     ensures { result ≡ shift_op_spec n }
 {
@@ -239,7 +239,7 @@ fn shift_form(size: Size, by: Count, n: u8) -> Option<Form>
     }
 }
 
-/// The operations of one operand by ModRM's middle digit.
+/// The operations of one operand by ModRM's reg field.
 fn unary_op(n: u8) -> Option<Op>
     ensures { result ≡ unary_op_spec n }
 {
@@ -267,7 +267,7 @@ fn unary_form(size: Size, n: u8) -> Option<Form>
     }
 }
 
-/// Inc, dec, call, jmp and push by ModRM's middle digit.
+/// Inc, dec, call, jmp and push by ModRM's reg field.
 #[tactic(auto, unfolding(ia32_types::specs::Rows::group_form))]
 fn step_form(n: u8) -> Option<Form>
     ensures { result ≡ group_form_spec Group.Step n }
@@ -275,21 +275,21 @@ fn step_form(n: u8) -> Option<Form>
     match n {
         0 => Some(unary(Op::Inc, Size::Full, Slot::RegMem)),
         1 => Some(unary(Op::Dec, Size::Full, Slot::RegMem)),
-        2 => Some(unary(Op::Call, Size::Long, Slot::RegMem)),
-        4 => Some(unary(Op::Jmp, Size::Long, Slot::RegMem)),
-        6 => Some(unary(Op::Push, Size::Long, Slot::RegMem)),
+        2 => Some(unary(Op::Call, Size::Dword, Slot::RegMem)),
+        4 => Some(unary(Op::Jmp, Size::Dword, Slot::RegMem)),
+        6 => Some(unary(Op::Push, Size::Dword, Slot::RegMem)),
         _ => None,
     }
 }
 
-/// A form where the digit is 0.
+/// A form where the reg field is 0.
 fn if_zero(n: u8, form: Form) -> Option<Form>
     ensures { result ≡ (if n == 0 then Some form else None) }
 {
     if n == 0 { Some(form) } else { None }
 }
 
-/// The form that the digit `n` tells.
+/// The form that the reg field `n` tells.
 #[tactic(auto, unfolding(ia32_types::specs::Rows::group_form))]
 pub fn group_form(group: Group, n: u8) -> Option<Form>
     ensures { result ≡ group_form_spec group n }
@@ -302,7 +302,7 @@ pub fn group_form(group: Group, n: u8) -> Option<Form>
         Group::Shift(by) => shift_form(Size::Full, by, n),
         Group::Mov8 => if_zero(n, binary(Op::Mov, Size::Byte, Slot::RegMem, Slot::Imm)),
         Group::Mov => if_zero(n, binary(Op::Mov, Size::Full, Slot::RegMem, Slot::Imm)),
-        Group::Pop => if_zero(n, unary(Op::Pop, Size::Long, Slot::RegMem)),
+        Group::Pop => if_zero(n, unary(Op::Pop, Size::Dword, Slot::RegMem)),
         Group::Nop => if_zero(n, unary(Op::Nop, Size::Full, Slot::RegMem)),
         Group::Unary8 => unary_form(Size::Byte, n),
         Group::Unary => unary_form(Size::Full, n),

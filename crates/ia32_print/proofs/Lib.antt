@@ -1,2 +1,2 @@
-mod Digits
-mod Parts
+mod DigitLemmas
+mod PartLemmas

@@ -2,7 +2,7 @@
 
 use Rattle.std.proofs.Common.{◌≡◌, ℕ, ◌<◌, ◌==◌, Bool, true, false, cond, if◌then◌else◌, List, [], ◌∷◌, sym, subst, arith}
 use Rattle.std.proofs.lemmas.Bool.{cond_both}
-use Rattle.ia32_types.specs.Readers.{Reader, done, bad, more, Accepts, then_, octet, pair, quad, number}
+use Rattle.ia32_types.specs.Readers.{Reader, done, bad, more, Accepts, then_, byte, word, dword, number}
 
 abbrev pub Every : {A : Type 0} → (A → Type 0) → Reader A → Type 0
 Every P (done x) = P x
@@ -29,20 +29,20 @@ every_if P t y z first second = cond_both t y z (Every P) first second
 abbrev pub number_limit : ℕ → ℕ
 number_limit n = (if n == 0 then 1 else (if n == 1 then 256 else (if n == 2 then 65536 else 4294967296)))
 
-every_octet : Every (λ n. n < 256) octet
-every_octet b lt = lt
+every_byte : Every (λ n. n < 256) byte
+every_byte b lt = lt
 
-every_pair : Every (λ n. n < 65536) pair
-every_pair a below_a b below_b = omega arith
+every_word : Every (λ n. n < 65536) word
+every_word a below_a b below_b = omega arith
 
-every_quad : Every (λ n. n < 4294967296) quad
-every_quad a below_a b below_b c below_c d below_d = omega arith
+every_dword : Every (λ n. n < 4294967296) dword
+every_dword a below_a b below_b c below_c d below_d = omega arith
 
-every_choice : (a b c : Bool) → Every (λ v. v < (cond a 1 (cond b 256 (cond c 65536 4294967296)))) (cond a (done 0) (cond b octet (cond c pair quad)))
+every_choice : (a b c : Bool) → Every (λ v. v < (cond a 1 (cond b 256 (cond c 65536 4294967296)))) (cond a (done 0) (cond b byte (cond c word dword)))
 every_choice true b c = omega arith
-every_choice false true c = every_octet
-every_choice false false true = every_pair
-every_choice false false false = every_quad
+every_choice false true c = every_byte
+every_choice false false true = every_word
+every_choice false false false = every_dword
 
 pub every_number : (n : ℕ) → Every (λ v. v < number_limit n) (number n)
 every_number n = every_choice (n == 0) (n == 1) (n == 2)

@@ -13,7 +13,7 @@ use Rattle.ia32_types.specs.declared.forms.Size.TheVariants as size
 use Rattle.ia32_types.specs.declared.forms.Slot.TheVariants as slot
 use Rattle.ia32_types.specs.declared.forms.Count.{Count}
 use Rattle.ia32_types.specs.declared.forms.Count.TheVariants as count
-use Rattle.ia32_types.specs.Forms.{plain, unary, binary, ternary, width_of, width_bytes, width_limit, reg_mem, reg_operand, middle_digit, is_gs, is_long, at_address, writes_first}
+use Rattle.ia32_types.specs.Forms.{plain, unary, binary, ternary, width_of, width_bytes, width_limit, reg_mem, reg_operand, reg_field, is_gs, is_dword, at_address, writes_first}
 use Rattle.ia32_types.specs.Rows.{count_slot}
 use Rattle.ia32_types.specs.Spells.{is_read_only}
 use Rattle.ia32_types.specs.Operands.{IsPlace, IsWide, Shape, pair, exchanged, loaded, pushed, popped, changed, factor, product, shifted, extended, tested, chosen, branched, returned, idle, alone, string, shape_of, Fits, HasOperands}
@@ -42,17 +42,17 @@ module _ (o : Op) (s : Size) where
       let width = width_of s p.operand16 in
       by_shape o _ e width _ _ None (
         first_named (writes_first o) p (binary o s slot.RegMem slot.Reg) width modrm m h.memory (λ is free. free_of (writes_first o) (is_read_only p.segment) is free),
-        register_value width (middle_digit modrm) (middle_below modrm),
-        (λ _. no_memory width (middle_digit modrm) (middle_below modrm)),
+        register_value width (reg_field modrm) (middle_below modrm),
+        (λ _. no_memory width (reg_field modrm) (middle_below modrm)),
       )
 
   pub pair_reg_rm : shape_of o ≡ pair (writes_first o) → IsProper (binary o s slot.Reg slot.RegMem)
   pair_reg_rm e p modrm number m h next =
       let width = width_of s p.operand16 in
       by_shape o _ e width _ _ None (
-        register_first (writes_first o) width (middle_digit modrm) (middle_below modrm),
+        register_first (writes_first o) width (reg_field modrm) (middle_below modrm),
         value_named p (binary o s slot.Reg slot.RegMem) width modrm m h.memory,
-        first_elsewhere (reg_operand width (middle_digit modrm)) (reg_mem width modrm m) (no_memory width (middle_digit modrm) (middle_below modrm)),
+        first_elsewhere (reg_operand width (reg_field modrm)) (reg_mem width modrm m) (no_memory width (reg_field modrm) (middle_below modrm)),
       )
 
   pub pair_rm_imm : shape_of o ≡ pair (writes_first o) → IsProper (binary o s slot.RegMem slot.Imm)
@@ -91,7 +91,7 @@ module _ (o : Op) (s : Size) where
   pair_offset_fixed e n lt p modrm number m h next =
       let width = width_of s p.operand16 in
       by_shape o _ e width _ _ None (
-        (address_alone (is_gs p.segment) number h.below, not_from_gs p.segment (or_parts (p.operand16 && is_long s) (is_read_only p.segment) h.refused).1),
+        (address_alone (is_gs p.segment) number h.below, not_from_gs p.segment (or_parts (p.operand16 && is_dword s) (is_read_only p.segment) h.refused).1),
         register_value width n lt,
         (λ _. no_memory width n lt),
       )
@@ -103,7 +103,7 @@ module _ (o : Op) (s : Size) where
       let width = width_of s p.operand16 in
       by_shape o _ e width _ _ None (
         target_named p (binary o s slot.RegMem slot.Reg) width modrm m h.memory (λ free. free_of (writes_first o) (is_read_only p.segment) is free),
-        is_register width (middle_digit modrm) (middle_below modrm),
+        is_register width (reg_field modrm) (middle_below modrm),
       )
 
   pub exchanged_fixed : shape_of o ≡ exchanged → (a b : ℕ) → a < 8 → b < 8 → IsProper (binary o s (slot.Fixed a) (slot.Fixed b))
@@ -140,48 +140,48 @@ module _ (o : Op) (s : Size) where
 module _ (o : Op) where
   -- -- Operands of 32 bits
 
-  pub loaded_reg : shape_of o ≡ loaded → IsProper (binary o size.Long slot.Reg slot.Memory)
+  pub loaded_reg : shape_of o ≡ loaded → IsProper (binary o size.Dword slot.Reg slot.Memory)
   loaded_reg e p modrm number None h next = cc
-  loaded_reg e p modrm number (Some m) h next = by_shape o _ e D32 _ _ None (refl, (is_register D32 (middle_digit modrm) (middle_below modrm), h.memory.0))
+  loaded_reg e p modrm number (Some m) h next = by_shape o _ e D32 _ _ None (refl, (is_register D32 (reg_field modrm) (middle_below modrm), h.memory.0))
 
-  pub pushed_fixed : shape_of o ≡ pushed → (n : ℕ) → n < 8 → IsProper (unary o size.Long (slot.Fixed n))
+  pub pushed_fixed : shape_of o ≡ pushed → (n : ℕ) → n < 8 → IsProper (unary o size.Dword (slot.Fixed n))
   pushed_fixed e n lt p modrm number m h next = by_shape o _ e D32 _ None None (refl, register_value D32 n lt)
 
-  pub pushed_rm : shape_of o ≡ pushed → IsProper (unary o size.Long slot.RegMem)
-  pushed_rm e p modrm number m h next = by_shape o _ e D32 _ None None (refl, value_named p (unary o size.Long slot.RegMem) D32 modrm m h.memory)
+  pub pushed_rm : shape_of o ≡ pushed → IsProper (unary o size.Dword slot.RegMem)
+  pushed_rm e p modrm number m h next = by_shape o _ e D32 _ None None (refl, value_named p (unary o size.Dword slot.RegMem) D32 modrm m h.memory)
 
-  pub pushed_imm : shape_of o ≡ pushed → IsProper (unary o size.Long slot.Imm)
+  pub pushed_imm : shape_of o ≡ pushed → IsProper (unary o size.Dword slot.Imm)
   pushed_imm e p modrm number m h next = by_shape o _ e D32 _ None None (refl, h.below)
 
-  pub pushed_signed : shape_of o ≡ pushed → IsProper (unary o size.Long slot.SignedImm8)
+  pub pushed_signed : shape_of o ≡ pushed → IsProper (unary o size.Dword slot.SignedImm8)
   pushed_signed e p modrm number m h next = by_shape o _ e D32 _ None None (refl, extended_below D32 number h.below)
 
-  pub pushed_near : shape_of o ≡ pushed → IsProper (unary o size.Long slot.Rel8)
+  pub pushed_near : shape_of o ≡ pushed → IsProper (unary o size.Dword slot.Rel8)
   pushed_near e p modrm number m h next = by_shape o _ e D32 _ None None (refl, omega arith)
 
-  pub pushed_far : shape_of o ≡ pushed → IsProper (unary o size.Long slot.Rel32)
+  pub pushed_far : shape_of o ≡ pushed → IsProper (unary o size.Dword slot.Rel32)
   pushed_far e p modrm number m h next = by_shape o _ e D32 _ None None (refl, omega arith)
 
-  pub popped_fixed : shape_of o ≡ popped → (n : ℕ) → n < 8 → IsProper (unary o size.Long (slot.Fixed n))
+  pub popped_fixed : shape_of o ≡ popped → (n : ℕ) → n < 8 → IsProper (unary o size.Dword (slot.Fixed n))
   popped_fixed e n lt p modrm number m h next = by_shape o _ e D32 _ None None (refl, register_target D32 n lt)
 
-  pub popped_rm : shape_of o ≡ popped → writes_first o ≡ true → IsProper (unary o size.Long slot.RegMem)
+  pub popped_rm : shape_of o ≡ popped → writes_first o ≡ true → IsProper (unary o size.Dword slot.RegMem)
   popped_rm e is p modrm number m h next =
-      by_shape o _ e D32 _ None None (refl, target_named p (unary o size.Long slot.RegMem) D32 modrm m h.memory (λ free. free_of (writes_first o) (is_read_only p.segment) is free))
+      by_shape o _ e D32 _ None None (refl, target_named p (unary o size.Dword slot.RegMem) D32 modrm m h.memory (λ free. free_of (writes_first o) (is_read_only p.segment) is free))
 
-  pub branched_near : (cond : ℕ) → shape_of o ≡ branched cond → cond < 16 → IsProper (unary o size.Long slot.Rel8)
+  pub branched_near : (cond : ℕ) → shape_of o ≡ branched cond → cond < 16 → IsProper (unary o size.Dword slot.Rel8)
   branched_near cond e lt p modrm number m h next = by_shape o _ e D32 _ None None (lt, refl, omega arith)
 
-  pub branched_far : (cond : ℕ) → shape_of o ≡ branched cond → cond < 16 → IsProper (unary o size.Long slot.Rel32)
+  pub branched_far : (cond : ℕ) → shape_of o ≡ branched cond → cond < 16 → IsProper (unary o size.Dword slot.Rel32)
   branched_far cond e lt p modrm number m h next = by_shape o _ e D32 _ None None (lt, refl, omega arith)
 
-  pub returned_plain : shape_of o ≡ returned → IsProper (plain o size.Long)
+  pub returned_plain : shape_of o ≡ returned → IsProper (plain o size.Dword)
   returned_plain e p modrm number m h next = by_shape o _ e D32 None None None (refl, tt)
 
-  pub returned_by : shape_of o ≡ returned → IsProper (unary o size.Long slot.Imm16)
+  pub returned_by : shape_of o ≡ returned → IsProper (unary o size.Dword slot.Imm16)
   returned_by e p modrm number m h next = by_shape o _ e D32 _ None None (refl, h.below)
 
-  pub alone_long : shape_of o ≡ alone → IsProper (plain o size.Long)
+  pub alone_long : shape_of o ≡ alone → IsProper (plain o size.Dword)
   alone_long e p modrm number m h next = by_shape o _ e D32 None None None (refl, tt)
 
   pub alone_any : shape_of o ≡ alone → IsProper (plain o size.Any)
@@ -207,7 +207,7 @@ module _ (o : Op) where
       by_shape o _ e width _ _ None (
         lt,
         wide_full p.operand16,
-        (is_register width (middle_digit modrm) (middle_below modrm), place_named p (binary o size.Full slot.Reg slot.RegMem) width modrm m h.memory),
+        (is_register width (reg_field modrm) (middle_below modrm), place_named p (binary o size.Full slot.Reg slot.RegMem) width modrm m h.memory),
       )
 
   pub product_two : shape_of o ≡ product → IsProper (binary o size.Full slot.Reg slot.RegMem)
@@ -215,7 +215,7 @@ module _ (o : Op) where
       let width = width_of size.Full p.operand16 in
       by_shape o _ e width _ _ None (
         wide_full p.operand16,
-        is_register width (middle_digit modrm) (middle_below modrm),
+        is_register width (reg_field modrm) (middle_below modrm),
         place_named p (binary o size.Full slot.Reg slot.RegMem) width modrm m h.memory,
       )
 
@@ -224,7 +224,7 @@ module _ (o : Op) where
       let width = width_of size.Full p.operand16 in
       by_shape o _ e width _ _ _ (
         wide_full p.operand16,
-        is_register width (middle_digit modrm) (middle_below modrm),
+        is_register width (reg_field modrm) (middle_below modrm),
         place_named p (ternary o size.Full slot.Reg slot.RegMem slot.Imm) width modrm m h.memory,
         third_below width number h.below,
       )
@@ -239,7 +239,7 @@ module _ (o : Op) where
       let width = width_of size.Full p.operand16 in
       by_shape o _ e width _ _ _ (
         wide_full p.operand16,
-        is_register width (middle_digit modrm) (middle_below modrm),
+        is_register width (reg_field modrm) (middle_below modrm),
         place_named p (ternary o size.Full slot.Reg slot.RegMem slot.SignedImm8) width modrm m h.memory,
         extended_below width number h.below,
       )
@@ -250,7 +250,7 @@ module _ (o : Op) where
       by_shape o _ e width _ _ None (
         wide_full p.operand16,
         tt,
-        (is_register width (middle_digit modrm) (middle_below modrm), place_named p (binary o size.Full slot.Reg slot.RegMem8) B8 modrm m h.memory),
+        (is_register width (reg_field modrm) (middle_below modrm), place_named p (binary o size.Full slot.Reg slot.RegMem8) B8 modrm m h.memory),
       )
 
   pub extended_word : shape_of o ≡ extended W16 → IsProper (binary o size.Full slot.Reg slot.RegMem)
@@ -259,7 +259,7 @@ module _ (o : Op) where
       by_shape o _ e width _ _ None (
         wide_full p.operand16,
         tt,
-        (is_register width (middle_digit modrm) (middle_below modrm), word p.operand16 m h.memory),
+        (is_register width (reg_field modrm) (middle_below modrm), word p.operand16 m h.memory),
       )
     where
       word : (operand16 : Bool) (m : Option Mem) → FitsMemory p (binary o size.Full slot.Reg slot.RegMem) m → IsPlace W16 (reg_mem (width_of size.Full operand16) modrm m)

@@ -19,10 +19,10 @@ use Rattle.ia32_types.specs.declared.forms.Repeat.TheVariants as repeat
 use Rattle.ia32_types.specs.declared.forms.Prefixes.{Prefixes}
 use Rattle.ia32_types.specs.declared.forms.Parts.{Parts}
 use Rattle.ia32_types.specs.Numbers.{reg_of, reg_number}
-use Rattle.ia32_types.specs.Forms.{plain, slot_has_modrm, is_gs, is_memory, has_modrm, low_digit, middle_digit, high_digit, sign_extended, finished}
+use Rattle.ia32_types.specs.Forms.{plain, slot_has_modrm, is_gs, is_memory, has_modrm, rm_field, reg_field, mod_field, scale_field, index_field, base_field, sign_extended, finished}
 use Rattle.ia32_types.specs.Memory.{memory, indexed, displaced, displacement, disp_bytes, index_of, index_scale, scale_of}
 use Rattle.ia32_types.specs.Prefixes.{no_prefixes, is_prefix, next_prefixes}
-use Rattle.ia32_types.specs.Readers.{Reader, done, bad, quad, octet, then_, number}
+use Rattle.ia32_types.specs.Readers.{Reader, done, bad, dword, byte, then_, number}
 use Rattle.ia32_types.specs.Rows.{row_of, row_0f, group_form, string_form}
 use Rattle.ia32_types.specs.Spells.{Spells, end_bytes, ending, is_refused, refuses_memory, addressed, formed, grouped_form, is_group_refused, grouped, rowed, string, simple, repeated, endbr32, two_bytes, opened, prefixed, instruction}
 use Rattle.ia32_types.specs.Operands.{IsAddress, IsIndex, IsInstruction}
@@ -45,7 +45,7 @@ IsScale n = (n ≡ 1) ⊎ ((n ≡ 2) ⊎ ((n ≡ 4) ⊎ (n ≡ 8)))
 every_displacement : (bytes : ℕ) → Every (λ n. n < 4294967296) (displacement bytes)
 every_displacement bytes = every_choice (bytes == 0) (bytes == 1)
   where
-    every_choice : (a b : Bool) → Every (λ n. n < 4294967296) (cond a (done 0) (cond b (then_ 0 octet (λ n. done (sign_extended D32 n))) quad))
+    every_choice : (a b : Bool) → Every (λ n. n < 4294967296) (cond a (done 0) (cond b (then_ 0 byte (λ n. done (sign_extended D32 n))) dword))
     every_choice true b = omega arith
     every_choice false true = λ n lt. extended_below D32 n lt
     every_choice false false = λ a la b lb c lc d ld. omega arith
@@ -77,21 +77,21 @@ is_index n high lt = by_test (n == 4) (λ other. esp_is_four n lt other)
 every_indexed : (gs : Bool) (high sib : ℕ) → Every (IsNamed gs) (indexed gs high sib)
 unfolding indexed
 every_indexed gs high sib =
-    let n : ℕ = middle_digit sib in
+    let n : ℕ = index_field sib in
     let lt : n < 8 = omega arith in
-    let scale : IsScale (index_scale n (high_digit sib)) = is_index_scale n (high_digit sib) in
-    let index : IsIndex (index_of n) (index_scale n (high_digit sib)) = is_index n (high_digit sib) lt in
-    every_if (IsNamed gs) (low_digit sib == 5 && high == 0) _ _
-    (λ _. every_displaced gs None (index_of n) (index_scale n (high_digit sib)) 4 scale index)
-    (λ _. every_displaced gs (Some (reg_of (low_digit sib))) (index_of n) (index_scale n (high_digit sib)) (disp_bytes high) scale index)
+    let scale : IsScale (index_scale n (scale_field sib)) = is_index_scale n (scale_field sib) in
+    let index : IsIndex (index_of n) (index_scale n (scale_field sib)) = is_index n (scale_field sib) lt in
+    every_if (IsNamed gs) (base_field sib == 5 && high == 0) _ _
+    (λ _. every_displaced gs None (index_of n) (index_scale n (scale_field sib)) 4 scale index)
+    (λ _. every_displaced gs (Some (reg_of (base_field sib))) (index_of n) (index_scale n (scale_field sib)) (disp_bytes high) scale index)
 
 every_memory : (gs : Bool) (modrm : ℕ) → Every (IsNamed gs) (memory gs modrm)
 unfolding memory
 every_memory gs modrm =
-    every_if (IsNamed gs) (low_digit modrm == 4) _ _ (λ _ sib lt. every_indexed gs (high_digit modrm) sib) (λ _.
-    every_if (IsNamed gs) (low_digit modrm == 5 && high_digit modrm == 0) _ _
+    every_if (IsNamed gs) (rm_field modrm == 4) _ _ (λ _ sib lt. every_indexed gs (mod_field modrm) sib) (λ _.
+    every_if (IsNamed gs) (rm_field modrm == 5 && mod_field modrm == 0) _ _
     (λ _. every_displaced gs None None 1 4 (inl refl) refl)
-    (λ _. every_displaced gs (Some (reg_of (low_digit modrm))) None 1 (disp_bytes (high_digit modrm)) (inl refl) refl))
+    (λ _. every_displaced gs (Some (reg_of (rm_field modrm))) None 1 (disp_bytes (mod_field modrm)) (inl refl) refl))
 
 -- -- Forms
 
@@ -106,7 +106,7 @@ every_ending p f modrm m proper goes lt fits =
 every_addressed : (p : Prefixes) (f : Form) (modrm : ℕ) → IsProper f → is_refused p f ≡ false → modrm < 256 → AllProper (addressed p f modrm)
 unfolding addressed
 every_addressed p f modrm proper goes lt =
-    every_if HasProperOperands (high_digit modrm == 3) _ _
+    every_if HasProperOperands (mod_field modrm == 3) _ _
     (λ _. every_if HasProperOperands (is_memory f.second) _ _ (λ _. tt) (λ none. every_ending p f modrm None proper goes lt none))
     (λ _. every_if HasProperOperands (refuses_memory p f) _ _ (λ _. tt) (λ free.
     every_then (IsNamed (is_gs p.segment)) HasProperOperands (end_bytes p f) (memory (is_gs p.segment) modrm) _ (every_memory (is_gs p.segment) modrm)
@@ -147,7 +147,7 @@ every_rowed p Missing proper = tt
 every_rowed p (One f) proper = every_formed p f proper
 every_rowed p (Grouped g) proper =
     every_if HasProperOperands (is_group_refused p g) _ _ (λ _. tt)
-    (λ _ modrm lt. every_grouped_form p modrm (group_form g (middle_digit modrm)) lt (proper (middle_digit modrm)))
+    (λ _ modrm lt. every_grouped_form p modrm (group_form g (reg_field modrm)) lt (proper (reg_field modrm)))
 
 every_string : (p : Prefixes) (f : Form) → IsStringForm f → AllProper (string p f)
 every_string p f is =
@@ -178,7 +178,7 @@ every_opened p repeat.Absent b =
     every_if HasProperOperands (b == 0x0F) (two_bytes p) _ (λ _ c lt. every_rowed p (row_0f c) (proper_row_0f c))
     (λ _. every_simple p b (string_form false b) (proper_string false b))
 every_opened p repeat.Last b =
-    every_if HasProperOperands (b == 0xC3) _ _ (λ _. every_formed p (plain op.Ret size.Long) (returned_plain op.Ret refl)) (λ _.
+    every_if HasProperOperands (b == 0xC3) _ _ (λ _. every_formed p (plain op.Ret size.Dword) (returned_plain op.Ret refl)) (λ _.
     every_if HasProperOperands (b == 0x0F) (endbr32 p) _ (λ _. every_endbr32 p)
     (λ _. every_repeated p (string_form true b) (proper_string true b)))
 every_opened p repeat.Earlier b = every_repeated p (string_form true b) (proper_string true b)

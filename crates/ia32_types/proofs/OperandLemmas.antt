@@ -14,7 +14,7 @@ use Rattle.ia32_types.specs.declared.forms.Segment.TheVariants as segment
 use Rattle.ia32_types.specs.declared.forms.Prefixes.{Prefixes}
 use Rattle.ia32_types.specs.declared.forms.Parts.{Parts}
 use Rattle.ia32_types.specs.Numbers.{reg_number, reg_of}
-use Rattle.ia32_types.specs.Forms.{width_bytes, width_limit, reg_operand, reg_mem, sign_extended, low_digit, middle_digit, is_gs, at_address, is_memory, operand_of, third_of, parts_width}
+use Rattle.ia32_types.specs.Forms.{width_bytes, width_limit, reg_operand, reg_mem, sign_extended, rm_field, reg_field, is_gs, at_address, is_memory, operand_of, third_of, parts_width}
 use Rattle.ia32_types.specs.Spells.{end_bytes, is_read_only, is_refused, refuses_memory}
 use Rattle.ia32_types.specs.Operands.{IsAddress, IsRegister, IsPlace, IsTarget, IsValue, is_in_memory, HasOneAddress, IsFirst, HasOperands}
 use Rattle.ia32_types.proofs.NumberLemmas.{number_of_reg}
@@ -54,10 +54,10 @@ is_register B8 n lt = cond_both (nat_lt n 4) _ _ (IsRegister B8) (λ low. first_
 is_register W16 n lt = tt
 is_register D32 n lt = tt
 
-pub middle_below : (modrm : ℕ) → middle_digit modrm < 8
+pub middle_below : (modrm : ℕ) → reg_field modrm < 8
 middle_below modrm = omega arith
 
-pub low_below : (modrm : ℕ) → low_digit modrm < 8
+pub low_below : (modrm : ℕ) → rm_field modrm < 8
 low_below modrm = omega arith
 
 -- a register is a place, a target and a value, and is no memory
@@ -97,15 +97,15 @@ not_from_gs segment.Gs e = cc
 
 module _ (p : Prefixes) (f : Form) (width : Width) (modrm : ℕ) where
   pub place_named : (m : Option Mem) → FitsMemory p f m → IsPlace width (reg_mem width modrm m)
-  place_named None fits = register_place width (low_digit modrm) (low_below modrm)
+  place_named None fits = register_place width (rm_field modrm) (low_below modrm)
   place_named (Some m) fits = fits.0
 
   pub value_named : (m : Option Mem) → FitsMemory p f m → IsValue width (reg_mem width modrm m)
-  value_named None fits = register_value width (low_digit modrm) (low_below modrm)
+  value_named None fits = register_value width (rm_field modrm) (low_below modrm)
   value_named (Some m) fits = fits.0
 
   pub target_named : (m : Option Mem) → FitsMemory p f m → (refuses_memory p f ≡ false → is_read_only p.segment ≡ false) → IsTarget width (reg_mem width modrm m)
-  target_named None fits free = register_target width (low_digit modrm) (low_below modrm)
+  target_named None fits free = register_target width (rm_field modrm) (low_below modrm)
   target_named (Some m) fits free = (fits.0, fits.1 ∙ not_from_gs p.segment (free fits.2))
 
 -- where a form writes its first operand, ModRM names no memory of a read-only segment

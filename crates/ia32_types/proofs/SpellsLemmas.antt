@@ -11,10 +11,10 @@ use Rattle.ia32_types.specs.declared.forms.Size.TheVariants as size
 use Rattle.ia32_types.specs.declared.forms.Slot.TheVariants as slot
 use Rattle.ia32_types.specs.declared.forms.Form.{Form}
 use Rattle.ia32_types.specs.declared.forms.Parts.{Parts}
-use Rattle.ia32_types.specs.Readers.{Reader, done, Accepts, quad}
+use Rattle.ia32_types.specs.Readers.{Reader, done, Accepts, dword}
 use Rattle.ia32_types.specs.Rows.{row_00, row_80, row_c0, string_form}
 use Rattle.ia32_types.specs.Numbers.{reg_of}
-use Rattle.ia32_types.specs.Forms.{plain, binary, finished, high_digit, low_digit, middle_digit}
+use Rattle.ia32_types.specs.Forms.{plain, binary, finished, mod_field, rm_field, reg_field}
 use Rattle.ia32_types.specs.Prefixes.{no_prefixes, next_prefixes}
 use Rattle.ia32_types.specs.Spells.{Spells, Begins, instruction, prefixed, opened, simple, formed, addressed, ending}
 use Rattle.ia32_types.proofs.NumberLemmas.{below_eight}
@@ -41,7 +41,7 @@ pub record FourBytes (bytes : List ℕ) (n : ℕ) : Type 0 where
   pub below_fourth : fourth < 256
   pub is : n ≡ first + 256 * second + 65536 * (third + 256 * fourth)
 
-pub four_bytes : (bytes : List ℕ) (n : ℕ) → Accepts quad bytes n → FourBytes bytes n
+pub four_bytes : (bytes : List ℕ) (n : ℕ) → Accepts dword bytes n → FourBytes bytes n
 four_bytes [] n p = absurd p
 four_bytes (a ∷ []) n p = absurd p.1
 four_bytes (a ∷ b ∷ []) n p = absurd p.1.1
@@ -65,10 +65,10 @@ abbrev pub mov_number : ℕ → ℕ → ℕ → Instr
 mov_number at r n = record { at = at; len = 5; op = op.Mov; width = D32; dst = Some (operand.Reg (reg_of r)); src = Some (operand.Imm n); imm = None }
 
 abbrev pub mov_register : ℕ → ℕ → Instr
-mov_register at modrm = record { at = at; len = 2; op = op.Mov; width = D32; dst = Some (operand.Reg (reg_of (low_digit modrm))); src = Some (operand.Reg (reg_of (middle_digit modrm))); imm = None }
+mov_register at modrm = record { at = at; len = 2; op = op.Mov; width = D32; dst = Some (operand.Reg (reg_of (rm_field modrm))); src = Some (operand.Reg (reg_of (reg_field modrm))); imm = None }
 
 abbrev pub add_register : ℕ → ℕ → Instr
-add_register at modrm = record { at = at; len = 2; op = op.Add; width = D32; dst = Some (operand.Reg (reg_of (low_digit modrm))); src = Some (operand.Reg (reg_of (middle_digit modrm))); imm = None }
+add_register at modrm = record { at = at; len = 2; op = op.Add; width = D32; dst = Some (operand.Reg (reg_of (rm_field modrm))); src = Some (operand.Reg (reg_of (reg_field modrm))); imm = None }
 
 abbrev pub near_return : ℕ → Instr
 near_return at = record { at = at; len = 1; op = op.Ret; width = D32; dst = None; src = None; imm = None }
@@ -85,7 +85,7 @@ after_b8 = below_eight (λ r. (rest : List ℕ) (x : Parts) → Accepts instruct
 number_ending : (r : ℕ) (rest : List ℕ) (x : Parts) → Accepts (formed no_prefixes (binary op.Mov size.Full (slot.Fixed r) slot.Imm)) rest x → (n : ℕ) × FourBytes rest n × (x ≡ mov_number_parts r n)
 unfolding formed
 number_ending r rest x p =
-    let two = in_two 0 quad (λ n. done (mov_number_parts r n)) rest x p in
+    let two = in_two 0 dword (λ n. done (mov_number_parts r n)) rest x p in
     let over = done_reads (mov_number_parts r two.value) x two.second two.then_reads in
     let whole : rest ≡ two.first = two.split ∙ ap (λ t. two.first ++ t) over.0 ∙ append-nil two.first in
     (two.value, subst (λ t. FourBytes t two.value) (sym whole) (four_bytes two.first two.value two.reads), over.1)
@@ -111,7 +111,7 @@ true_if : (t : Bool) (y z : Reader Parts) (rest : List ℕ) (x : Parts) → t �
 true_if true y z rest x e p = p
 true_if false y z rest x e p = cc
 
-is_three : (modrm : ℕ) → 0xC0 ≤ modrm → modrm < 256 → (high_digit modrm == 3) ≡ true
+is_three : (modrm : ℕ) → 0xC0 ≤ modrm → modrm < 256 → (mod_field modrm == 3) ≡ true
 is_three modrm low high = let e : modrm / 64 ≡ 3 = omega arith in ap (λ n. n == 3) e
 
 -- a form with a register or memory, and a register
@@ -121,7 +121,7 @@ two_operands o = binary o size.Full slot.RegMem slot.Reg
 -- what follows a ModRM byte that names a register
 names_register : (o : Op) (modrm : ℕ) (rest : List ℕ) (x : Parts) → 0xC0 ≤ modrm → modrm < 256 → Accepts (addressed no_prefixes (two_operands o) modrm) rest x → Accepts (ending no_prefixes (two_operands o) modrm None) rest x
 unfolding addressed
-names_register o modrm rest x low high p = if_true (high_digit modrm == 3) _ _ rest x (is_three modrm low high) p
+names_register o modrm rest x low high p = if_true (mod_field modrm == 3) _ _ rest x (is_three modrm low high) p
 
 abbrev pub two_register_parts : Form → ℕ → Parts
 two_register_parts f modrm = record { form = f; prefixes = no_prefixes; modrm = modrm; memory = None; number = 0 }
@@ -150,7 +150,7 @@ add_register_spelled modrm rest at i low s =
 pub near_return_spelled : (rest : List ℕ) (at : ℕ) (i : Instr) → Spells (0xC3 ∷ rest) at i → (rest ≡ []) × (i ≡ near_return at)
 unfolding instruction prefixed next_prefixes opened simple row_00 row_80 row_c0 string_form formed
 near_return_spelled rest at i s =
-    let over = done_reads (two_register_parts (plain op.Ret size.Long) 0) s.parts rest s.read.1 in
+    let over = done_reads (two_register_parts (plain op.Ret size.Dword) 0) s.parts rest s.read.1 in
     let long : length (0xC3 ∷ rest) ≡ 1 = ap (λ (t : List ℕ). length (0xC3 ∷ t)) over.0 in
     (over.0, s.is ∙ ap (λ n. finished at n s.parts) long ∙ ap (λ v. finished at 1 v) over.1)
 
@@ -197,7 +197,7 @@ mov_number_spells b a1 a2 a3 a4 at low high b1 b2 b3 b4 =
 
 register_named : (o : Op) (modrm : ℕ) (rest : List ℕ) (x : Parts) → 0xC0 ≤ modrm → modrm < 256 → Accepts (ending no_prefixes (two_operands o) modrm None) rest x → Accepts (addressed no_prefixes (two_operands o) modrm) rest x
 unfolding addressed
-register_named o modrm rest x low high p = true_if (high_digit modrm == 3) _ _ rest x (is_three modrm low high) p
+register_named o modrm rest x low high p = true_if (mod_field modrm == 3) _ _ rest x (is_three modrm low high) p
 
 pub mov_register_spells : (modrm at : ℕ) → 0xC0 ≤ modrm → modrm < 256 → Spells (0x89 ∷ modrm ∷ []) at (mov_register at modrm)
 unfolding instruction prefixed next_prefixes opened simple row_00 row_80 row_c0 string_form formed
@@ -224,7 +224,7 @@ add_register_spells modrm at low high =
 pub near_return_spells : (at : ℕ) → Spells (0xC3 ∷ []) at (near_return at)
 unfolding instruction prefixed next_prefixes opened simple row_00 row_80 row_c0 string_form formed
 near_return_spells at = record {
-  parts = two_register_parts (plain op.Ret size.Long) 0;
+  parts = two_register_parts (plain op.Ret size.Dword) 0;
   read = (lit< tt, refl);
   short = lit≤ tt;
   is = refl;

@@ -38,7 +38,7 @@ abbrev pub width_of : Size → Bool → Width
 width_of size.Byte operand16 = B8
 width_of size.Full true = W16
 width_of size.Full false = D32
-width_of size.Long operand16 = D32
+width_of size.Dword operand16 = D32
 width_of size.Any operand16 = D32
 
 -- the bytes of an immediate of this width
@@ -63,15 +63,25 @@ reg_operand D32 n = operand.Reg (reg_of n)
 abbrev pub sign_extended : Width → ℕ → ℕ
 sign_extended width n = (if nat_lt n 128 then n else (n + (width_limit width - 256)) % 4294967296)
 
--- the digits of ModRM and of SIB
-abbrev pub high_digit : ℕ → ℕ
-high_digit byte = byte / 64
+-- the fields of ModRM
+abbrev pub mod_field : ℕ → ℕ
+mod_field modrm = modrm / 64
 
-abbrev pub middle_digit : ℕ → ℕ
-middle_digit byte = byte / 8 % 8
+abbrev pub reg_field : ℕ → ℕ
+reg_field modrm = modrm / 8 % 8
 
-abbrev pub low_digit : ℕ → ℕ
-low_digit byte = byte % 8
+abbrev pub rm_field : ℕ → ℕ
+rm_field modrm = modrm % 8
+
+-- the fields of SIB
+abbrev pub scale_field : ℕ → ℕ
+scale_field sib = sib / 64
+
+abbrev pub index_field : ℕ → ℕ
+index_field sib = sib / 8 % 8
+
+abbrev pub base_field : ℕ → ℕ
+base_field sib = sib % 8
 
 -- the bytes at the instruction's end that a slot takes
 abbrev pub slot_bytes : Width → Slot → ℕ
@@ -122,9 +132,9 @@ abbrev pub is_reg_mem : Option Slot → Bool
 is_reg_mem (Some slot.RegMem) = true
 is_reg_mem _ = false
 
-abbrev pub is_long : Size → Bool
-is_long size.Long = true
-is_long _ = false
+abbrev pub is_dword : Size → Bool
+is_dword size.Dword = true
+is_dword _ = false
 
 -- whether an operation writes its first operand
 unfoldable pub writes_first : Op → Bool
@@ -146,7 +156,7 @@ stores f = is_reg_mem f.first && writes_first f.op
 
 -- the register or memory that ModRM names, at a width
 abbrev pub reg_mem : Width → ℕ → Option Mem → Operand
-reg_mem width modrm None = reg_operand width (low_digit modrm)
+reg_mem width modrm None = reg_operand width (rm_field modrm)
 reg_mem width modrm (Some memory) = operand.Mem memory
 
 -- whether the address counts from GS
@@ -166,7 +176,7 @@ abbrev pub operand_of : Parts → ℕ → Slot → Operand
 operand_of p next slot.RegMem = reg_mem (parts_width p) p.modrm p.memory
 operand_of p next slot.RegMem8 = reg_mem B8 p.modrm p.memory
 operand_of p next slot.Memory = reg_mem (parts_width p) p.modrm p.memory
-operand_of p next slot.Reg = reg_operand (parts_width p) (middle_digit p.modrm)
+operand_of p next slot.Reg = reg_operand (parts_width p) (reg_field p.modrm)
 operand_of p next (slot.Fixed n) = reg_operand (parts_width p) n
 operand_of p next slot.Cl = operand.Reg Ecx
 operand_of p next slot.One = operand.Imm 1

@@ -25,15 +25,15 @@ then_ n bad k = bad
 then_ n (more m f) k = more (m + n) (λ b. then_ n (f b) k)
 
 -- numbers of one, two and four bytes, the low byte first (SDM volume 1, 1.3.1)
-abbrev pub octet : Reader ℕ
-octet = more 1 (λ b. done b)
+abbrev pub byte : Reader ℕ
+byte = more 1 (λ b. done b)
 
-abbrev pub pair : Reader ℕ
-pair = then_ 1 octet (λ low. then_ 0 octet (λ high. done (low + 256 * high)))
+abbrev pub word : Reader ℕ
+word = then_ 1 byte (λ low. then_ 0 byte (λ high. done (low + 256 * high)))
 
-abbrev pub quad : Reader ℕ
-quad = then_ 2 pair (λ low. then_ 0 pair (λ high. done (low + 65536 * high)))
+abbrev pub dword : Reader ℕ
+dword = then_ 2 word (λ low. then_ 0 word (λ high. done (low + 65536 * high)))
 
 -- a number of 0, 1, 2 or 4 bytes
 abbrev pub number : ℕ → Reader ℕ
-number n = (if n == 0 then done 0 else (if n == 1 then octet else (if n == 2 then pair else quad)))
+number n = (if n == 0 then done 0 else (if n == 1 then byte else (if n == 2 then word else dword)))

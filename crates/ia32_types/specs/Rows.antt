@@ -47,13 +47,13 @@ unfoldable pub row_40 : ℕ → Row
 row_40 b =
     (if nat_le 0x40 b && nat_le b 0x47 then One (unary op.Inc size.Full (slot.Fixed (b - 0x40))) else
     (if nat_le 0x48 b && nat_le b 0x4F then One (unary op.Dec size.Full (slot.Fixed (b - 0x48))) else
-    (if nat_le 0x50 b && nat_le b 0x57 then One (unary op.Push size.Long (slot.Fixed (b - 0x50))) else
-    (if nat_le 0x58 b && nat_le b 0x5F then One (unary op.Pop size.Long (slot.Fixed (b - 0x58))) else
-    (if b == 0x68 then One (unary op.Push size.Long slot.Imm) else
+    (if nat_le 0x50 b && nat_le b 0x57 then One (unary op.Push size.Dword (slot.Fixed (b - 0x50))) else
+    (if nat_le 0x58 b && nat_le b 0x5F then One (unary op.Pop size.Dword (slot.Fixed (b - 0x58))) else
+    (if b == 0x68 then One (unary op.Push size.Dword slot.Imm) else
     (if b == 0x69 then One (ternary op.Imul size.Full slot.Reg slot.RegMem slot.Imm) else
-    (if b == 0x6A then One (unary op.Push size.Long slot.SignedImm8) else
+    (if b == 0x6A then One (unary op.Push size.Dword slot.SignedImm8) else
     (if b == 0x6B then One (ternary op.Imul size.Full slot.Reg slot.RegMem slot.SignedImm8) else
-    (if nat_le 0x70 b && nat_le b 0x7F then One (unary (op.Jcc (b - 0x70)) size.Long slot.Rel8) else
+    (if nat_le 0x70 b && nat_le b 0x7F then One (unary (op.Jcc (b - 0x70)) size.Dword slot.Rel8) else
     Missing)))))))))
 
 -- opcodes 80 to BF
@@ -70,12 +70,12 @@ row_80 b =
     (if b == 0x89 then One (binary op.Mov size.Full slot.RegMem slot.Reg) else
     (if b == 0x8A then One (binary op.Mov size.Byte slot.Reg slot.RegMem) else
     (if b == 0x8B then One (binary op.Mov size.Full slot.Reg slot.RegMem) else
-    (if b == 0x8D then One (binary op.Lea size.Long slot.Reg slot.Memory) else
+    (if b == 0x8D then One (binary op.Lea size.Dword slot.Reg slot.Memory) else
     (if b == 0x8F then Grouped group.Pop else
     (if b == 0x90 then One (plain op.Nop size.Any) else
     (if nat_le 0x91 b && nat_le b 0x97 then One (binary op.Xchg size.Full (slot.Fixed 0) (slot.Fixed (b - 0x90))) else
-    (if b == 0x98 then One (plain op.Cwde size.Long) else
-    (if b == 0x99 then One (plain op.Cdq size.Long) else
+    (if b == 0x98 then One (plain op.Cwde size.Dword) else
+    (if b == 0x99 then One (plain op.Cdq size.Dword) else
     (if b == 0xA0 then One (binary op.Mov size.Byte (slot.Fixed 0) slot.Offset) else
     (if b == 0xA1 then One (binary op.Mov size.Full (slot.Fixed 0) slot.Offset) else
     (if b == 0xA2 then One (binary op.Mov size.Byte slot.Offset (slot.Fixed 0)) else
@@ -91,19 +91,19 @@ unfoldable pub row_c0 : ℕ → Row
 row_c0 b =
     (if b == 0xC0 then Grouped (group.Shift8 count.Imm8) else
     (if b == 0xC1 then Grouped (group.Shift count.Imm8) else
-    (if b == 0xC2 then One (unary op.Ret size.Long slot.Imm16) else
-    (if b == 0xC3 then One (plain op.Ret size.Long) else
+    (if b == 0xC2 then One (unary op.Ret size.Dword slot.Imm16) else
+    (if b == 0xC3 then One (plain op.Ret size.Dword) else
     (if b == 0xC6 then Grouped group.Mov8 else
     (if b == 0xC7 then Grouped group.Mov else
-    (if b == 0xC9 then One (plain op.Leave size.Long) else
+    (if b == 0xC9 then One (plain op.Leave size.Dword) else
     (if b == 0xCC then One (plain op.Int3 size.Any) else
     (if b == 0xD0 then Grouped (group.Shift8 count.One) else
     (if b == 0xD1 then Grouped (group.Shift count.One) else
     (if b == 0xD2 then Grouped (group.Shift8 count.Cl) else
     (if b == 0xD3 then Grouped (group.Shift count.Cl) else
-    (if b == 0xE8 then One (unary op.Call size.Long slot.Rel32) else
-    (if b == 0xE9 then One (unary op.Jmp size.Long slot.Rel32) else
-    (if b == 0xEB then One (unary op.Jmp size.Long slot.Rel8) else
+    (if b == 0xE8 then One (unary op.Call size.Dword slot.Rel32) else
+    (if b == 0xE9 then One (unary op.Jmp size.Dword slot.Rel32) else
+    (if b == 0xEB then One (unary op.Jmp size.Dword slot.Rel8) else
     (if b == 0xF4 then One (plain op.Hlt size.Any) else
     (if b == 0xF6 then Grouped group.Unary8 else
     (if b == 0xF7 then Grouped group.Unary else
@@ -123,7 +123,7 @@ row_0f b =
     (if b == 0x0B then One (plain op.Ud2 size.Any) else
     (if b == 0x1F then Grouped group.Nop else
     (if nat_le 0x40 b && nat_le b 0x4F then One (binary (op.Cmov (b - 0x40)) size.Full slot.Reg slot.RegMem) else
-    (if nat_le 0x80 b && nat_le b 0x8F then One (unary (op.Jcc (b - 0x80)) size.Long slot.Rel32) else
+    (if nat_le 0x80 b && nat_le b 0x8F then One (unary (op.Jcc (b - 0x80)) size.Dword slot.Rel32) else
     (if nat_le 0x90 b && nat_le b 0x9F then One (unary (op.Setcc (b - 0x90)) size.Byte slot.RegMem) else
     (if b == 0xAF then One (binary op.Imul size.Full slot.Reg slot.RegMem) else
     (if b == 0xB6 then One (binary (op.Movzx B8) size.Full slot.Reg slot.RegMem8) else
@@ -141,7 +141,7 @@ string_form rep b =
     (if b == 0xAB then Some (plain (op.Stos rep) size.Full) else
     None))))
 
--- the shifts and rotates by ModRM's middle digit
+-- the shifts and rotates by ModRM's reg field
 abbrev pub shift_op : ℕ → Option Op
 shift_op n =
     (if n == 0 then Some op.Rol else
@@ -173,7 +173,7 @@ unary_op n =
 abbrev pub unary_form : Size → ℕ → Option Form
 unary_form size n = (if n == 0 then Some (binary op.Test size slot.RegMem slot.Imm) else option_map (λ op. unary op size slot.RegMem) (unary_op n))
 
--- the form that the digit n tells
+-- the form that the reg field n tells
 unfoldable pub group_form : Group → ℕ → Option Form
 group_form group.Arith8 n = Some (binary (arith_op n) size.Byte slot.RegMem slot.Imm)
 group_form group.Arith n = Some (binary (arith_op n) size.Full slot.RegMem slot.Imm)
@@ -182,7 +182,7 @@ group_form (group.Shift8 by) n = shift_form size.Byte by n
 group_form (group.Shift by) n = shift_form size.Full by n
 group_form group.Mov8 n = (if n == 0 then Some (binary op.Mov size.Byte slot.RegMem slot.Imm) else None)
 group_form group.Mov n = (if n == 0 then Some (binary op.Mov size.Full slot.RegMem slot.Imm) else None)
-group_form group.Pop n = (if n == 0 then Some (unary op.Pop size.Long slot.RegMem) else None)
+group_form group.Pop n = (if n == 0 then Some (unary op.Pop size.Dword slot.RegMem) else None)
 group_form group.Nop n = (if n == 0 then Some (unary op.Nop size.Full slot.RegMem) else None)
 group_form group.Unary8 n = unary_form size.Byte n
 group_form group.Unary n = unary_form size.Full n
@@ -193,7 +193,7 @@ group_form group.Step8 n =
 group_form group.Step n =
     (if n == 0 then Some (unary op.Inc size.Full slot.RegMem) else
     (if n == 1 then Some (unary op.Dec size.Full slot.RegMem) else
-    (if n == 2 then Some (unary op.Call size.Long slot.RegMem) else
-    (if n == 4 then Some (unary op.Jmp size.Long slot.RegMem) else
-    (if n == 6 then Some (unary op.Push size.Long slot.RegMem) else
+    (if n == 2 then Some (unary op.Call size.Dword slot.RegMem) else
+    (if n == 4 then Some (unary op.Jmp size.Dword slot.RegMem) else
+    (if n == 6 then Some (unary op.Push size.Dword slot.RegMem) else
     None)))))

@@ -18,7 +18,7 @@ use Rattle.ia32_types.specs.declared.forms.Repeat.{Repeat}
 use Rattle.ia32_types.specs.declared.forms.Repeat.TheVariants as repeat
 use Rattle.ia32_types.specs.declared.forms.Parts.{Parts}
 use Rattle.ia32_types.specs.Readers.{Reader, done, bad, more, Accepts, then_, number}
-use Rattle.ia32_types.specs.Forms.{plain, width_of, form_bytes, has_modrm, high_digit, middle_digit, is_gs, is_long, is_memory, is_offset, stores, finished}
+use Rattle.ia32_types.specs.Forms.{plain, width_of, form_bytes, has_modrm, mod_field, reg_field, is_gs, is_dword, is_memory, is_offset, stores, finished}
 use Rattle.ia32_types.specs.Rows.{row_of, row_0f, group_form, string_form}
 use Rattle.ia32_types.specs.Memory.{memory}
 use Rattle.ia32_types.specs.Prefixes.{no_prefixes, is_prefix, next_prefixes, bytes_after}
@@ -52,16 +52,16 @@ refuses_memory p f = stores f && is_read_only p.segment
 abbrev pub in_memory : Prefixes → Form → ℕ → Reader Parts
 in_memory p f modrm = then_ (end_bytes p f) (memory (is_gs p.segment) modrm) (λ m. ending p f modrm (Some m))
 
--- what follows ModRM: where its high digit is 3, the operand is a register
+-- what follows ModRM: where its mod field is 3, the operand is a register
 unfoldable pub addressed : Prefixes → Form → ℕ → Reader Parts
 addressed p f modrm =
-    (if high_digit modrm == 3 then (if is_memory f.second then bad else ending p f modrm None)
+    (if mod_field modrm == 3 then (if is_memory f.second then bad else ending p f modrm None)
     else (if refuses_memory p f then bad else in_memory p f modrm))
 
 -- whether the prefixes don't go with a form: 66 where there are 32 bits alone, 65 and 2E where memory at an
 -- address is written
 abbrev pub is_refused : Prefixes → Form → Bool
-is_refused p f = p.operand16 && is_long f.size || is_offset f.first && is_read_only p.segment
+is_refused p f = p.operand16 && is_dword f.size || is_offset f.first && is_read_only p.segment
 
 -- what follows an opcode of this form
 unfoldable pub formed : Prefixes → Form → Reader Parts
@@ -100,9 +100,9 @@ group_bytes p group.Unary = 0
 group_bytes p group.Step8 = 0
 group_bytes p group.Step = 0
 
--- what follows an opcode of a group: ModRM, whose middle digit tells the form
+-- what follows an opcode of a group: ModRM, whose reg field tells the form
 unfoldable pub grouped : Prefixes → Group → Reader Parts
-grouped p g = (if is_group_refused p g then bad else more (1 + group_bytes p g) (λ modrm. grouped_form p modrm (group_form g (middle_digit modrm))))
+grouped p g = (if is_group_refused p g then bad else more (1 + group_bytes p g) (λ modrm. grouped_form p modrm (group_form g (reg_field modrm))))
 
 -- what follows an opcode
 abbrev pub rowed : Prefixes → Row → Reader Parts
@@ -135,7 +135,7 @@ two_bytes p = more 1 (λ b. rowed p (row_0f b))
 unfoldable pub opened : Prefixes → Repeat → ℕ → Reader Parts
 opened p repeat.Absent b = (if b == 0x0F then two_bytes p else simple p b (string_form false b))
 opened p repeat.Last b =
-    (if b == 0xC3 then formed p (plain op.Ret size.Long)
+    (if b == 0xC3 then formed p (plain op.Ret size.Dword)
     else (if b == 0x0F then endbr32 p
     else repeated p (string_form true b)))
 opened p repeat.Earlier b = repeated p (string_form true b)

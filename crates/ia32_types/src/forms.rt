@@ -11,7 +11,7 @@ pub enum Size {
     /// 32 bits, or 16 with the prefix 66.
     Full,
     /// 32 bits; the prefix 66 is refused.
-    Long,
+    Dword,
     /// The form doesn't tell; the prefix 66 changes nothing.
     Any,
 }
@@ -25,7 +25,7 @@ pub enum Slot {
     RegMem8,
     /// The memory that ModRM names, and no register (M).
     Memory,
-    /// The register of ModRM's middle digit (G).
+    /// The register of ModRM's reg field (G).
     Reg,
     /// The register of this number, which the opcode tells (Z).
     Fixed(u8),
@@ -67,7 +67,7 @@ pub enum Count {
     Cl,
 }
 
-/// Opcodes whose form ModRM's middle digit tells (appendix A.4). A name with 8 has operands of 8 bits.
+/// Opcodes whose form ModRM's reg field tells (appendix A.4). A name with 8 has operands of 8 bits.
 #[derive(Clone, Copy)]
 pub enum Group {
     Arith8,

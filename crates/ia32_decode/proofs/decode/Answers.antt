@@ -1,5 +1,5 @@
 use Rattle.std.proofs.Common.{◌≡◌, ◌≤◌, length, arith}
-use Rattle.ia32_decode.proofs.DecodedLaws.{ok_exactly, short_exactly, unknown_exactly, are_bytes, if_placed}
+use Rattle.ia32_decode.proofs.DecodedLemmas.{ok_exactly, short_exactly, unknown_exactly, are_bytes, if_placed}
 use Rattle.ia32_decode.proofs.decode.Goals as goal
 
 pub returns-clause-ok : goal.returns-clause-ok

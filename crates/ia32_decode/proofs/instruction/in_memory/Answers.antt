@@ -1,5 +1,5 @@
 use Rattle.std.proofs.Common.{sym, ◌∙◌}
-use Rattle.ia32_decode.proofs.RunLaws.{run_in_memory}
+use Rattle.ia32_decode.proofs.RunLemmas.{run_in_memory}
 use Rattle.ia32_decode.proofs.instruction.in_memory.Goals as goal
 
 pub returns : goal.returns

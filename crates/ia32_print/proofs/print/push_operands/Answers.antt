@@ -1,5 +1,5 @@
 use Rattle.std.proofs.Common.{append_assoc}
-use Rattle.ia32_print.proofs.Parts.{operands-one, operands-two, operands-three}
+use Rattle.ia32_print.proofs.PartLemmas.{operands-one, operands-two, operands-three}
 use Rattle.ia32_print.proofs.print.push_operands.Goals as goal
 
 pub returns-in_default-src : goal.returns-in_default-src

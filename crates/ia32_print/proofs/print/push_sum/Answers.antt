@@ -1,5 +1,5 @@
 use Rattle.std.proofs.Common.{append_assoc}
-use Rattle.ia32_print.proofs.Parts.{sum-none, sum-base, sum-index, sum-both}
+use Rattle.ia32_print.proofs.PartLemmas.{sum-none, sum-base, sum-index, sum-both}
 use Rattle.ia32_print.proofs.print.push_sum.Goals as goal
 
 pub returns-in-None-None-clause-text : goal.returns-in-None-None-clause-text

@@ -1,5 +1,5 @@
 use Rattle.std.proofs.Common.{◌<◌, ◌≢◌, get_or, ◌∙◌, sym, arith}
-use Rattle.ia32_print.proofs.Digits.{without_zeros-zero, without_zeros-end}
+use Rattle.ia32_print.proofs.DigitLemmas.{without_zeros-zero, without_zeros-end}
 use Rattle.ia32_print.proofs.print.significant.Goals as goal
 use Rattle.ia32_print.proofs.print.significant.Goals.{then-loop-start-test+else-digits-start-eq48, else-loop-start-test}
 

@@ -12,8 +12,8 @@ use Rattle.ia32_decode.specs.declared.NotDecoded.{NotDecoded}
 use Rattle.ia32_decode.specs.declared.NotDecoded.TheVariants.{Short, Unknown}
 use Rattle.ia32_decode.specs.Reading.{run, and_then}
 use Rattle.ia32_decode.specs.Decoded.{NoneBegins, SomeLonger, NoLonger, decoded}
-use Rattle.ia32_decode.proofs.FrontLaws.{front, run_front, found, complete, short, unknown, AreBytes}
-use Rattle.ia32_decode.proofs.HonestGrammar.{honest_instruction}
+use Rattle.ia32_decode.proofs.FrontLemmas.{front, run_front, found, complete, short, unknown, AreBytes}
+use Rattle.ia32_decode.proofs.HonestGrammarLemmas.{honest_instruction}
 
 -- the same over the list
 abbrev shown : ℕ → Result (Parts × ℕ) NotDecoded → Result Instr NotDecoded

@@ -21,7 +21,7 @@ use Rattle.ia32_types.specs.declared.forms.Prefixes.{Prefixes}
 use Rattle.ia32_types.specs.Forms.{width_of, form_bytes, is_memory, stores, unary, binary}
 use Rattle.ia32_types.specs.Rows.{row_00, row_40, row_80, row_c0, row_of, row_0f, arith_op, arith_form, shift_op, unary_op, group_form, count_slot}
 use Rattle.ia32_types.specs.Spells.{end_bytes, group_bytes}
-use Rattle.ia32_decode.proofs.HonestParts.{IsSize}
+use Rattle.ia32_decode.proofs.HonestPartLemmas.{IsSize}
 
 abbrev pub is_size : ℕ → Bool
 is_size n = n == 0 || n == 1 || n == 2 || n == 4

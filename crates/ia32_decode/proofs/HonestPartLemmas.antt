@@ -5,11 +5,11 @@ use Rattle.std.proofs.lemmas.Bool.{cond_both}
 use Rattle.ia32_types.specs.declared.Reg.{Reg}
 use Rattle.ia32_types.specs.declared.Width.TheVariants.{D32}
 use Rattle.ia32_types.specs.declared.Mem.{Mem}
-use Rattle.ia32_types.specs.Readers.{Reader, done, bad, more, then_, octet, pair, quad, number}
+use Rattle.ia32_types.specs.Readers.{Reader, done, bad, more, then_, byte, word, dword, number}
 use Rattle.ia32_types.specs.Numbers.{reg_of}
-use Rattle.ia32_types.specs.Forms.{low_digit, middle_digit, high_digit, sign_extended}
+use Rattle.ia32_types.specs.Forms.{rm_field, mod_field, scale_field, index_field, base_field, sign_extended}
 use Rattle.ia32_types.specs.Memory.{displacement, disp_bytes, displaced, index_of, index_scale, indexed, memory}
-use Rattle.ia32_decode.proofs.Honest.{IsHonest, fewest, AtMost}
+use Rattle.ia32_decode.proofs.HonestLemmas.{IsHonest, fewest, AtMost}
 
 -- a grammar that n bytes complete at least
 pub record Needs {A : Type 0} (r : Reader A) (n : ℕ) : Type 0 where
@@ -53,14 +53,14 @@ honest_then n (more m f) k h g = record {
 pub needs_then : {A B : Type 0} (m n : ℕ) (r : Reader A) (k : A → Reader B) → Needs r m → ((x : A) → Needs (k x) n) → Needs (then_ n r k) (m + n)
 needs_then m n r k h g = let p = honest_then n r k h.honest g in record { honest = p.honest; is = p.is ∙ ap (plus n) h.is }
 
-pub needs_octet : Needs octet 1
+pub needs_octet : Needs byte 1
 needs_octet = record { honest = (λ b lt. (tt, omega arith), (0, 0, record { is_byte = lit< tt; fewest_after = refl; one_more = refl })); is = refl }
 
-pub needs_pair : Needs pair 2
-needs_pair = needs_then 1 1 octet _ needs_octet (λ low. needs_then 1 0 octet (λ high. done (low + 256 * high)) needs_octet (λ high. record { honest = tt; is = refl }))
+pub needs_pair : Needs word 2
+needs_pair = needs_then 1 1 byte _ needs_octet (λ low. needs_then 1 0 byte (λ high. done (low + 256 * high)) needs_octet (λ high. record { honest = tt; is = refl }))
 
-pub needs_quad : Needs quad 4
-needs_quad = needs_then 2 2 pair _ needs_pair (λ low. needs_then 2 0 pair (λ high. done (low + 65536 * high)) needs_pair (λ high. record { honest = tt; is = refl }))
+pub needs_quad : Needs dword 4
+needs_quad = needs_then 2 2 word _ needs_pair (λ low. needs_then 2 0 word (λ high. done (low + 65536 * high)) needs_pair (λ high. record { honest = tt; is = refl }))
 
 -- the sizes of a number
 abbrev pub IsSize : ℕ → Type 0
@@ -109,7 +109,7 @@ disp_few n (inr (inr e)) = omega arith
 
 needs_displacement : (n : ℕ) → IsDisp n → Needs (displacement n) n
 needs_displacement n (inl e) = subst (λ v. Needs (displacement v) v) (sym e) (record { honest = tt; is = refl })
-needs_displacement n (inr (inl e)) = subst (λ v. Needs (displacement v) v) (sym e) (needs_then 1 0 octet (λ v. done (sign_extended D32 v)) needs_octet (λ v. record { honest = tt; is = refl }))
+needs_displacement n (inr (inl e)) = subst (λ v. Needs (displacement v) v) (sym e) (needs_then 1 0 byte (λ v. done (sign_extended D32 v)) needs_octet (λ v. record { honest = tt; is = refl }))
 needs_displacement n (inr (inr e)) = subst (λ v. Needs (displacement v) v) (sym e) needs_quad
 
 needs_displaced : (gs : Bool) (base index : Option Reg) (scale n : ℕ) → IsDisp n → Needs (displaced gs base index scale n) n
@@ -121,9 +121,9 @@ needs_displaced gs base index scale n d =
 ends_indexed : (gs : Bool) (high sib : ℕ) → Ends (indexed gs high sib) (disp_bytes high)
 unfolding indexed
 ends_indexed gs high sib =
-    cond_both {A = Reader Mem} (low_digit sib == 5 && high == 0) _ _ (λ r. Ends r (disp_bytes high))
-    (λ _. needs_ends _ (disp_bytes high) 4 (disp_few (disp_bytes high) (disp_bytes_is high)) (needs_displaced gs None (index_of (middle_digit sib)) (index_scale (middle_digit sib) (high_digit sib)) 4 (inr (inr refl))))
-    (λ _. needs_ends _ (disp_bytes high) (disp_bytes high) (let e : disp_bytes high ≤ disp_bytes high = omega arith in e) (needs_displaced gs (Some (reg_of (low_digit sib))) (index_of (middle_digit sib)) (index_scale (middle_digit sib) (high_digit sib)) (disp_bytes high) (disp_bytes_is high)))
+    cond_both {A = Reader Mem} (base_field sib == 5 && high == 0) _ _ (λ r. Ends r (disp_bytes high))
+    (λ _. needs_ends _ (disp_bytes high) 4 (disp_few (disp_bytes high) (disp_bytes_is high)) (needs_displaced gs None (index_of (index_field sib)) (index_scale (index_field sib) (scale_field sib)) 4 (inr (inr refl))))
+    (λ _. needs_ends _ (disp_bytes high) (disp_bytes high) (let e : disp_bytes high ≤ disp_bytes high = omega arith in e) (needs_displaced gs (Some (reg_of (base_field sib))) (index_of (index_field sib)) (index_scale (index_field sib) (scale_field sib)) (disp_bytes high) (disp_bytes_is high)))
 
 needs_indexed : (gs : Bool) (high : ℕ) → Needs (indexed gs high 0) (disp_bytes high)
 unfolding indexed
@@ -132,14 +132,14 @@ needs_indexed gs high = needs_displaced gs (Some (reg_of 0)) (index_of 0) (index
 pub honest_memory : (gs : Bool) (modrm : ℕ) → IsHonest (memory gs modrm)
 unfolding memory
 honest_memory gs modrm =
-    cond_both (low_digit modrm == 4) _ _ IsHonest
+    cond_both (rm_field modrm == 4) _ _ IsHonest
     (λ _. (
-      λ b lt. let e = ends_indexed gs (high_digit modrm) b in (e.honest, e.at_most),
-      (0, disp_bytes (high_digit modrm), record { is_byte = lit< tt; fewest_after = (needs_indexed gs (high_digit modrm)).is; one_more = let e : 1 + disp_bytes (high_digit modrm) ≡ suc (disp_bytes (high_digit modrm)) = omega arith in e }),
+      λ b lt. let e = ends_indexed gs (mod_field modrm) b in (e.honest, e.at_most),
+      (0, disp_bytes (mod_field modrm), record { is_byte = lit< tt; fewest_after = (needs_indexed gs (mod_field modrm)).is; one_more = let e : 1 + disp_bytes (mod_field modrm) ≡ suc (disp_bytes (mod_field modrm)) = omega arith in e }),
     ))
-    (λ _. cond_both (low_digit modrm == 5 && high_digit modrm == 0) _ _ IsHonest
+    (λ _. cond_both (rm_field modrm == 5 && mod_field modrm == 0) _ _ IsHonest
     (λ _. (needs_displaced gs None None 1 4 (inr (inr refl))).honest)
-    (λ _. (needs_displaced gs (Some (reg_of (low_digit modrm))) None 1 (disp_bytes (high_digit modrm)) (disp_bytes_is (high_digit modrm))).honest))
+    (λ _. (needs_displaced gs (Some (reg_of (rm_field modrm))) None 1 (disp_bytes (mod_field modrm)) (disp_bytes_is (mod_field modrm))).honest))
 
 -- memory without a displacement
 pub needs_memory : (gs : Bool) → Needs (memory gs 0) 0

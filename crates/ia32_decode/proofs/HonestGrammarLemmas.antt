@@ -18,14 +18,14 @@ use Rattle.ia32_types.specs.declared.forms.Repeat.TheVariants as repeat
 use Rattle.ia32_types.specs.declared.forms.Prefixes.{Prefixes}
 use Rattle.ia32_types.specs.declared.forms.Parts.{Parts}
 use Rattle.ia32_types.specs.Readers.{Reader, bad, more, number}
-use Rattle.ia32_types.specs.Forms.{has_modrm, is_memory, is_gs, stores, plain, high_digit, middle_digit}
+use Rattle.ia32_types.specs.Forms.{has_modrm, is_memory, is_gs, stores, plain, mod_field, reg_field}
 use Rattle.ia32_types.specs.Rows.{row_of, row_0f, row_80, group_form, string_form}
 use Rattle.ia32_types.specs.Memory.{memory}
 use Rattle.ia32_types.specs.Prefixes.{no_prefixes, is_prefix, is_earlier, next_prefixes, bytes_after}
 use Rattle.ia32_types.specs.Spells.{end_bytes, ending, is_read_only, refuses_memory, in_memory, addressed, is_refused, formed, grouped_form, is_group_refused, group_bytes, grouped, rowed, string, simple, repeated, endbr32, two_bytes, opened, prefixed, instruction}
-use Rattle.ia32_decode.proofs.Honest.{IsHonest, fewest, AtMost, Leads}
-use Rattle.ia32_decode.proofs.HonestParts.{Needs, needs_then, honest_then, IsSize, needs_number, Ends, ends_bad, needs_ends, plus_ends, at_most_one, honest_memory, needs_memory}
-use Rattle.ia32_decode.proofs.HonestRows.{is_good, good_size, good_memory, IsGoodRow, good_row_of, good_row_0f, IsGoodDigit, good_digit}
+use Rattle.ia32_decode.proofs.HonestLemmas.{IsHonest, fewest, AtMost, Leads}
+use Rattle.ia32_decode.proofs.HonestPartLemmas.{Needs, needs_then, honest_then, IsSize, needs_number, Ends, ends_bad, needs_ends, plus_ends, at_most_one, honest_memory, needs_memory}
+use Rattle.ia32_decode.proofs.HonestRowLemmas.{is_good, good_size, good_memory, IsGoodRow, good_row_of, good_row_0f, IsGoodDigit, good_digit}
 
 needs_ending : (p : Prefixes) (f : Form) (modrm : ℕ) (memory : Option Mem) → IsSize (end_bytes p f) → Needs (ending p f modrm memory) (end_bytes p f)
 needs_ending p f modrm memory size =
@@ -43,15 +43,15 @@ unfolding addressed
 ends_addressed p f modrm size =
     let P : Reader Parts → Type 0 = λ r. Ends r (end_bytes p f) in
     let all : end_bytes p f ≤ end_bytes p f = omega arith in
-    cond_both (high_digit modrm == 3) _ _ P
+    cond_both (mod_field modrm == 3) _ _ P
     (λ _. cond_both (is_memory f.second) _ _ P (λ _. ends_bad (end_bytes p f)) (λ _. needs_ends _ (end_bytes p f) (end_bytes p f) all (needs_ending p f modrm None size)))
     (λ _. cond_both (refuses_memory p f) _ _ P (λ _. ends_bad (end_bytes p f)) (λ _. ends_in_memory p f modrm size))
 
 -- a register as operand
-needs_register : (p : Prefixes) (f : Form) (modrm : ℕ) → (high_digit modrm == 3) ≡ true → is_memory f.second ≡ false → IsSize (end_bytes p f) → Needs (addressed p f modrm) (end_bytes p f)
+needs_register : (p : Prefixes) (f : Form) (modrm : ℕ) → (mod_field modrm == 3) ≡ true → is_memory f.second ≡ false → IsSize (end_bytes p f) → Needs (addressed p f modrm) (end_bytes p f)
 unfolding addressed
 needs_register p f modrm three register size =
-    first_of_two (high_digit modrm == 3) _ _ (end_bytes p f) three (second_of_two (is_memory f.second) _ _ (end_bytes p f) register (needs_ending p f modrm None size))
+    first_of_two (mod_field modrm == 3) _ _ (end_bytes p f) three (second_of_two (is_memory f.second) _ _ (end_bytes p f) register (needs_ending p f modrm None size))
   where
     first_of_two : (t : Bool) (x y : Reader Parts) (n : ℕ) → t ≡ true → Needs x n → Needs (if t then x else y) n
     first_of_two true x y n e h = h
@@ -127,7 +127,7 @@ group_modrm_byte group.Unary8 = lit< tt
 group_modrm_byte group.Unary = lit< tt
 group_modrm_byte _ = lit< tt
 
-group_witness : (o : Bool) (s : Segment) (r : Repeat) (g : Group) → (let p : Prefixes = record { operand16 = o; segment = s; repeat = r } in is_group_refused p g ≡ false → Needs (grouped_form p (group_modrm g) (group_form g (middle_digit (group_modrm g)))) (group_bytes p g))
+group_witness : (o : Bool) (s : Segment) (r : Repeat) (g : Group) → (let p : Prefixes = record { operand16 = o; segment = s; repeat = r } in is_group_refused p g ≡ false → Needs (grouped_form p (group_modrm g) (group_form g (reg_field (group_modrm g)))) (group_bytes p g))
 unfolding group_form
 group_witness true s r group.Arith8 h = needs_register _ _ 192 refl refl (inr (inl refl))
 group_witness false s r group.Arith8 h = needs_register _ _ 192 refl refl (inr (inl refl))
@@ -168,7 +168,7 @@ honest_grouped : (p : Prefixes) (g : Group) → IsHonest (grouped p g)
 unfolding grouped
 honest_grouped p g =
     cond_both (is_group_refused p g) _ _ IsHonest (λ _. tt)
-    (λ allowed. honest_more _ (group_bytes p g) (λ b. ends_digit p g b (group_form g (middle_digit b)) (good_digit p g (middle_digit b)))
+    (λ allowed. honest_more _ (group_bytes p g) (λ b. ends_digit p g b (group_form g (reg_field b)) (good_digit p g (reg_field b)))
     (record { byte = group_modrm g; is_byte = group_modrm_byte g; fewest_after = (group_witness p.operand16 p.segment p.repeat g allowed).is }))
 
 honest_rowed : (p : Prefixes) (row : Row) → IsGoodRow row → IsHonest (rowed p row)
@@ -230,7 +230,7 @@ honest_opened : (p : Prefixes) (r : Repeat) (b : ℕ) → IsHonest (opened p r b
 unfolding opened
 honest_opened p repeat.Absent b = cond_both (b == 0x0F) _ _ IsHonest (λ _. honest_two_bytes p) (λ _. honest_simple p b)
 honest_opened p repeat.Last b =
-    cond_both (b == 0xC3) _ _ IsHonest (λ _. honest_formed p (plain op.Ret size.Long) refl) (λ _.
+    cond_both (b == 0xC3) _ _ IsHonest (λ _. honest_formed p (plain op.Ret size.Dword) refl) (λ _.
     cond_both (b == 0x0F) _ _ IsHonest (λ _. honest_endbr32 p) (λ _. honest_repeated p b))
 honest_opened p repeat.Earlier b = honest_repeated p b
 

@@ -9,7 +9,7 @@ use Rattle.ia32_types.specs.Readers.{Reader, done, bad, more, Accepts}
 use Rattle.ia32_decode.specs.declared.NotDecoded.{NotDecoded}
 use Rattle.ia32_decode.specs.declared.NotDecoded.TheVariants.{Short, Unknown}
 use Rattle.ia32_decode.specs.Reading.{run, byte_or_short, and_then}
-use Rattle.ia32_decode.proofs.Honest.{IsHonest, at_least, completion}
+use Rattle.ia32_decode.proofs.HonestLemmas.{IsHonest, at_least, completion}
 
 -- the same over the bytes that are left
 abbrev pub front : {A : Type 0} → Reader A → List ℕ → ℕ → Result (A × ℕ) NotDecoded
