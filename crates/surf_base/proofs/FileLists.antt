@@ -134,6 +134,12 @@ module _ (files : List StoredFile) (at : ℕ) (file default : StoredFile)
       → faults_at files unknown name ≤ faults_at (set files at file) unknown name
   faults_at-raised name unknown later = faults_later (get_or files at default) file _ _ unknown (either name) later
 
+  -- and of another name in any case
+  pub faults_at-set_other : (name other : List ℕ) (unknown : ℕ) → StandsAt files name at → other ≢ name
+      → faults_at (set files at file) unknown other ≡ faults_at files unknown other
+  faults_at-set_other name other unknown stands differs =
+      ap (λ o. option_map_or (λ f. f.faults) o unknown) (stored-set_other name other stands differs)
+
   -- the count of the file that stands there rose as its own did
   pub rose-set : (name : List ℕ) (unknown : ℕ) → StandsAt files name at → Rose (get_or files at default).faults file.faults
       → Rose (faults_at files unknown name) (faults_at (set files at file) unknown name)

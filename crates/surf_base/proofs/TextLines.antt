@@ -1,8 +1,8 @@
 -- The lines of a text, one after another.
-use Rattle.std.proofs.Common.{◌≡◌, ℕ, suc, ◌+◌, ◌<◌, min, Bool, true, false, cond, not, eqb, Option, List, [], ◌∷◌, ◌++◌, length, take, drop, refl, sym, ap, ◌∙◌, arith, append_assoc, append-nil, eqb-true}
+use Rattle.std.proofs.Common.{◌≡◌, ℕ, suc, ◌+◌, ◌<◌, min, Bool, true, false, cond, not, eqb, Option, List, [], ◌∷◌, ◌++◌, length, take, drop, refl, sym, ap, subst, ◌∙◌, arith, append_assoc, append-nil, eqb-true}
 use Rattle.std.specs.List.{concat, position_or_len}
 use Rattle.std.proofs.lemmas.List.Folds.{concat-append}
-use Rattle.surf_base.specs.Sink.{lines_of, on_first, Appends, AppendsPart, AppendsLines}
+use Rattle.surf_base.specs.Sink.{lines_of, on_first, Appends, AppendsPart, Writes, Fails, WritesEach, WritesLines, StopsInLine}
 use Rattle.surf_base.proofs.Appending.{appends_nothing, appends_then, appends_same}
 
 concat-on_first : (byte : ℕ) (lines : List (List ℕ)) → concat (on_first byte lines) ≡ byte ∷ concat lines
@@ -51,47 +51,71 @@ pub line_split : (rest line after : List ℕ) (n : ℕ) → 0 < length rest → 
     → lines_of rest ≡ line ∷ lines_of after
 line_split rest line after n some n_is line_is after_is = rw (line_is, after_is, n_is) (lines_of-split rest some)
 
--- The lines before the rest have been written.
-pub record Written (old now : Option (List ℕ)) (text rest : List ℕ) : Type 0 where
-  pub whole : List (List ℕ)
-  pub lines_are : lines_of text ≡ whole ++ lines_of rest
-  pub appended : Appends old now (concat whole)
+-- -- Calls, one for each line
 
-pub written_none : (old : Option (List ℕ)) (text : List ℕ) → Written old old text text
-written_none old text = record { whole = []; lines_are = refl; appended = appends_nothing old }
+module _ {K : Type 0} (written : K → Option (List ℕ)) (faults : K → ℕ) where
+  -- one call more
+  each_then : (old now new : K) (pieces : List (List ℕ)) (piece : List ℕ) → WritesEach written faults old pieces now
+      → Writes written faults now piece new → WritesEach written faults old (pieces ++ piece ∷ []) new
+  each_then old now new [] piece each last = (new, subst (λ k. Writes written faults k piece new) each last, refl)
+  each_then old now new (first ∷ pieces) piece each last = (each.0, each.1, each_then each.0 now new pieces piece each.2 last)
 
-pub written_line : (old now new : Option (List ℕ)) (text rest line after : List ℕ) → lines_of rest ≡ line ∷ lines_of after
-    → Written old now text rest → Appends now new line → Written old new text after
-written_line old now new text rest line after split w a = record {
-  whole = w.whole ++ line ∷ [];
-  lines_are = rw (w.lines_are, split, append_assoc) refl;
-  appended = appends_same old new _ _ (rw (concat-append, append-nil) refl) (appends_then old now new (concat w.whole) line w.appended a);
-}
+  -- together they append all the pieces, and count no fault
+  pub each_appends : (old new : K) (pieces : List (List ℕ)) → WritesEach written faults old pieces new → Appends (written old) (written new) (concat pieces)
+  each_appends old new [] each = subst (λ k. Appends (written old) (written k) []) (sym each) (appends_nothing (written old))
+  each_appends old new (piece ∷ pieces) each =
+      appends_then (written old) (written each.0) (written new) piece (concat pieces) each.1.appended (each_appends each.0 new pieces each.2)
 
-pub written_all : (old now : Option (List ℕ)) (text rest : List ℕ) → length rest ≡ 0 → Written old now text rest → Appends old now text
-unfolding lines_of
-written_all old now text [] none w =
-    let lines : lines_of text ≡ w.whole = w.lines_are ∙ append-nil w.whole in
-    appends_same old now (concat w.whole) text (sym (ap concat lines) ∙ concat-lines_of text) w.appended
-written_all old now text (byte ∷ rest) none w = absurd (omega arith)
+  pub each_counts : (old new : K) (pieces : List (List ℕ)) → WritesEach written faults old pieces new → faults new ≡ faults old
+  each_counts old new [] each = ap faults each
+  each_counts old new (piece ∷ pieces) each = each_counts each.0 new pieces each.2 ∙ each.1.counted
 
-pub written_part : (old now new : Option (List ℕ)) (text rest line after : List ℕ) → lines_of rest ≡ line ∷ lines_of after
-    → Written old now text rest → AppendsPart now new line → AppendsLines old new text
-written_part old now new text rest line after split w p = record {
-  whole = w.whole;
-  part = p.part;
-  rest = p.rest;
-  more = lines_of after;
-  lines_are = rw (w.lines_are, split, p.piece_is) refl;
-  appended = appends_then old now new (concat w.whole) p.part w.appended p.appended;
-}
+  -- a call for each line appends the text
+  pub lines_append : (old new : K) (text : List ℕ) → WritesLines written faults old text new → Appends (written old) (written new) text
+  lines_append old new text each = appends_same (written old) (written new) _ text (concat-lines_of text) (each_appends old new (lines_of text) each)
 
--- whole lines and a part of the next are a part of the text
-pub part_from_lines : (old new : Option (List ℕ)) (text : List ℕ) → AppendsLines old new text → AppendsPart old new text
-part_from_lines old new text lines = record {
-  part = concat lines.whole ++ lines.part;
-  rest = lines.rest ++ concat lines.more;
-  piece_is = sym (concat-lines_of text) ∙ ap concat lines.lines_are ∙ concat-append lines.whole ((lines.part ++ lines.rest) ∷ lines.more)
-      ∙ simp append_assoc;
-  appended = lines.appended;
-}
+  -- whole lines and a part of the next are a part of the text
+  pub part_from_lines : (old new : K) (text : List ℕ) → StopsInLine written faults old text new → AppendsPart (written old) (written new) text
+  part_from_lines old new text stops = record {
+    part = concat stops.whole ++ stops.fails.part.part;
+    rest = stops.fails.part.rest ++ concat stops.more;
+    piece_is = sym (concat-lines_of text) ∙ ap concat stops.lines_are ∙ concat-append stops.whole (stops.line ∷ stops.more)
+        ∙ ap (λ t. concat stops.whole ++ (t ++ concat stops.more)) stops.fails.part.piece_is ∙ simp append_assoc;
+    appended = appends_then (written old) (written stops.before) (written new) _ _ (each_appends old stops.before stops.whole stops.each) stops.fails.part.appended;
+  }
+
+  -- the lines before the rest have been written
+  pub record Written (old now : K) (text rest : List ℕ) : Type 0 where
+    pub whole : List (List ℕ)
+    pub lines_are : lines_of text ≡ whole ++ lines_of rest
+    pub each : WritesEach written faults old whole now
+
+  pub written_none : (old : K) (text : List ℕ) → Written old old text text
+  written_none old text = record { whole = []; lines_are = refl; each = refl }
+
+  pub written_line : (old now new : K) (text rest line after : List ℕ) → lines_of rest ≡ line ∷ lines_of after
+      → Written old now text rest → Writes written faults now line new → Written old new text after
+  written_line old now new text rest line after split w last = record {
+    whole = w.whole ++ line ∷ [];
+    lines_are = rw (w.lines_are, split, append_assoc) refl;
+    each = each_then old now new w.whole line w.each last;
+  }
+
+  pub written_all : (old now : K) (text rest : List ℕ) → length rest ≡ 0 → Written old now text rest → WritesLines written faults old text now
+  unfolding lines_of
+  written_all old now text [] none w =
+      let lines : lines_of text ≡ w.whole = w.lines_are ∙ append-nil w.whole in
+      subst (λ lines. WritesEach written faults old lines now) (sym lines) w.each
+  written_all old now text (byte ∷ rest) none w = absurd (omega arith)
+
+  pub written_part : (old now new : K) (text rest line after : List ℕ) → lines_of rest ≡ line ∷ lines_of after
+      → Written old now text rest → Fails written faults now line new → StopsInLine written faults old text new
+  written_part old now new text rest line after split w fails = record {
+    whole = w.whole;
+    line = line;
+    more = lines_of after;
+    lines_are = w.lines_are ∙ ap (λ lines. w.whole ++ lines) split;
+    before = now;
+    each = w.each;
+    fails = fails;
+  }

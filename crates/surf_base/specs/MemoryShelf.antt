@@ -1,5 +1,5 @@
 -- Files in memory.
-use Rattle.std.specs.Prelude.{◌≡◌, ◌≢◌, ℕ, ◌<◌, Bool, Option, Some, List, length, find, slice_index_or}
+use Rattle.std.specs.Prelude.{◌≡◌, ◌≢◌, ℕ, ◌<◌, ◌⊎◌, Bool, Option, Some, None, List, length, find, slice_index_or}
 use Rattle.std.specs.List.{position_or_len}
 use Rattle.std.specs.Option.{option_map, option_map_or}
 use Rattle.std.specs.String.{string_bytes}
@@ -36,6 +36,10 @@ shelf_file shelf name = bytes_at shelf.files.items name
 -- the faults of a name
 abbrev pub shelf_faults : MemoryShelf → List ℕ → ℕ
 shelf_faults shelf name = faults_at shelf.files.items shelf.unknown name
+
+-- two names have one count: they are equal, or the shelf has neither
+abbrev pub SharesCount : MemoryShelf → List ℕ → List ℕ → Type 0
+SharesCount shelf name other = (name ≡ other) ⊎ ((shelf_file shelf name ≡ None) × (shelf_file shelf other ≡ None))
 
 -- how often it was read
 abbrev pub shelf_calls : MemoryShelf → ℕ

@@ -5,7 +5,7 @@ ghost use Rattle.std.specs.Prelude.{◌≡◌, ◌≢◌, ◌<◌, ◌≤◌, �
 ghost use Rattle.surf_base.specs.Calls.{next_call};
 ghost use Rattle.surf_base.specs.Faults.{Rose};
 ghost use Rattle.surf_base.specs.Shelf.{Answers};
-ghost use Rattle.surf_base.specs.MemoryShelf.{is_named, stored, StandsAt, bytes_at, faults_at, shelf_file, shelf_faults, shelf_calls, shelf_failing, PutsFile, SameShelf};
+ghost use Rattle.surf_base.specs.MemoryShelf.{is_named, stored, StandsAt, bytes_at, faults_at, shelf_file, shelf_faults, shelf_calls, shelf_failing, SharesCount, PutsFile, SameShelf};
 
 use crate::calls::Calls;
 use crate::{Shelf, ShelfError};
@@ -56,6 +56,8 @@ fn raise_at(files: &mut [StoredFile], at: usize)
     requires { at < length files.old }
     ensures files { (name : List ℕ) → bytes_at files.new name ≡ bytes_at files.old name }
     ensures counts { (name : List ℕ) (unknown : ℕ) → faults_at files.old unknown name ≤ faults_at files.new unknown name }
+    ensures others { (name other : List ℕ) (unknown : ℕ) → StandsAt files.old name at → other ≢ name
+        → faults_at files.new unknown other ≡ faults_at files.old unknown other }
     ensures rose { (name : List ℕ) (unknown : ℕ) → StandsAt files.old name at
         → Rose (faults_at files.old unknown name) (faults_at files.new unknown name) }
 {
@@ -106,10 +108,14 @@ impl Shelf for MemoryShelf {
 
     ghost faults = { shelf_faults };
 
+    ghost SharesCount = { SharesCount };
+
     fn read(&mut self, alloc: Global, name: &str, limit: u32) -> Result<Vec<u8>, ShelfError>
         ensures answers { Answers (shelf_file self.old name.now) limit (shelf_faults self.old name.now) (shelf_faults self.new name.now) result }
         ensures files { (other : List ℕ) → shelf_file self.new other ≡ shelf_file self.old other }
         ensures counts { (other : List ℕ) → shelf_faults self.old other ≤ shelf_faults self.new other }
+        ensures kept { ¬ IsErrOf result ShelfError.Failed → (other : List ℕ) → shelf_faults self.new other ≡ shelf_faults self.old other }
+        ensures others { (other : List ℕ) → ¬ SharesCount self.old name.now other → shelf_faults self.new other ≡ shelf_faults self.old other }
         ensures fails { IsErrOf result ShelfError.Failed ↔ (Contains (shelf_failing self.old) (next_call (shelf_calls self.old))
             ⊎ IsNone (shelf_file self.old name.now)) }
         ensures calls { shelf_calls self.new ≡ next_call (shelf_calls self.old) }

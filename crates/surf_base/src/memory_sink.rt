@@ -59,6 +59,7 @@ impl Sink for MemorySink {
         ensures appended { OnOk result (Appends (Some (sink_text self.old)) (Some (sink_text self.new)) piece.now) }
         ensures part { OnErr result (AppendsPart (Some (sink_text self.old)) (Some (sink_text self.new)) piece.now) }
         ensures cause { OnErr result (Rose (sink_faults self.old) (sink_faults self.new)) }
+        ensures kept { OnOk result (sink_faults self.new ≡ sink_faults self.old) }
         ensures counts { sink_faults self.old ≤ sink_faults self.new }
         // A failing call takes nothing.
         ensures nothing { OnErr result (sink_text self.new ≡ sink_text self.old) }

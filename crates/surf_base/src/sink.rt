@@ -2,7 +2,7 @@
 ghost use Rattle.std.specs.Prelude.{◌≡◌, ◌==◌, ◌+◌, ◌<◌, ◌≤◌, min, ℕ, List, length, Option, OnOk, OnErr};
 ghost use Rattle.std.specs.List.{position, position_or_len};
 ghost use Rattle.surf_base.specs.Faults.{Rose};
-ghost use Rattle.surf_base.specs.Sink.{Appends, AppendsPart, AppendsLines};
+ghost use Rattle.surf_base.specs.Sink.{Appends, AppendsPart, WritesLines, StopsInLine};
 
 /// A piece of text wasn't written, and the count of the sink's faults rose.
 #[derive(Clone, Copy, Debug, PartialEq, Eq)]
@@ -21,6 +21,7 @@ pub trait Sink {
         ensures appended { OnOk result (Appends (written self.old) (written self.new) piece.now) }
         ensures part { OnErr result (AppendsPart (written self.old) (written self.new) piece.now) }
         ensures cause { OnErr result (Rose (faults self.old) (faults self.new)) }
+        ensures kept { OnOk result (faults self.new ≡ faults self.old) }
         ensures counts { faults self.old ≤ faults self.new };
 }
 
@@ -44,8 +45,9 @@ fn first_line_len(text: &[u8]) -> usize
 /// Writes a text by one call of `write` a line, LF included. After an error the lines before the failing one
 /// were appended, and some beginning of that one.
 pub fn write_lines<K: Sink>(text: &[u8], sink: &mut K) -> Result<(), SinkFailed>
+    ensures lines { OnOk result (WritesLines K.written K.faults sink.old text.now sink.new) }
+    ensures stops { OnErr result (StopsInLine K.written K.faults sink.old text.now sink.new) }
     ensures appended { OnOk result (Appends (K.written sink.old) (K.written sink.new) text.now) }
-    ensures part { OnErr result (AppendsLines (K.written sink.old) (K.written sink.new) text.now) }
     ensures cause { OnErr result (Rose (K.faults sink.old) (K.faults sink.new)) }
     ensures counts { K.faults sink.old ≤ K.faults sink.new }
 {

@@ -12,7 +12,6 @@ use Rattle.elf32.specs.declared.error.ElfError.{ElfError}
 use Rattle.elf32.specs.Loading.{Loads}
 use Rattle.surf_base.specs.Faults.{Rose}
 use Rattle.surf_base.specs.Shelf.{IsLonger, Gives}
-use Rattle.surf_base.specs.Sink.{Appends}
 use Rattle.surf_prog.specs.declared.words.Task.{Task}
 use Rattle.surf_prog.specs.declared.words.Task.TheVariants as task
 use Rattle.surf_prog.specs.declared.request.NoReply.{NoReply}
@@ -22,7 +21,7 @@ use Rattle.surf_prog.specs.declared.refusal.Refusal.TheVariants as refusal
 use Rattle.surf_prog.specs.StraightCode.{IsStraight}
 use Rattle.surf_prog.specs.Code.{code_of}
 use Rattle.surf_prog.specs.Listing.{IsTheListing}
-use Rattle.surf_prog.specs.Once.{image_limit, Enters, HasCode, HasNode, HasList, first_place, IsListReply, IsReply, HasReply, HasNoImage, HasNoEntry, IsUnsupported, IsAbsent, TellsLine, WasRead, ForAsked, AsksNothing, WritesReply, WritesPart, IsStatus, WritesNothing, ErrorLines, shelf_line, too_long_line}
+use Rattle.surf_prog.specs.Once.{image_limit, Enters, HasCode, HasNode, HasList, first_place, IsListReply, IsReply, HasReply, HasNoImage, HasNoEntry, IsUnsupported, IsAbsent, TellsLine, WasRead, ForAsked, AsksNothing, WritesReply, IsStatus, WritesNothing, ErrorLines, shelf_line, too_long_line}
 use Rattle.surf_prog.specs.Words.{Asks}
 use Rattle.surf_prog.specs.Answer.{Asked, OfFile, Replies, Answers, refusal_of, line_of, status_of}
 use Rattle.surf_prog.proofs.Straight.{one_list}
@@ -202,9 +201,9 @@ unsupported_place status file asked at is short unsupported =
       ((λ nine. (at, unsupported)), (λ found. is)),
     )
 
-module _ (words : List (List ℕ)) (files : List ℕ → Option (List ℕ)) (before now : List ℕ → ℕ) (old new : Option (List ℕ)) (faults faults_now : ℕ) where
+module _ (words : List (List ℕ)) (files : List ℕ → Option (List ℕ)) (before now : List ℕ → ℕ) (old new : Option (List ℕ)) (Whole Stops : List ℕ → Type 0) (faults faults_now : ℕ) where
   abbrev Ended : Result (Unit {0}) Refusal → Type 0
-  Ended r = Answers words files before now old new faults faults_now r
+  Ended r = Answers words files before now old new Whole Stops faults faults_now r
 
   abbrev status_in : Result (Unit {0}) Refusal → ℕ
   status_in (Ok u) = 0
@@ -233,9 +232,9 @@ module _ (words : List (List ℕ)) (files : List ℕ → Option (List ℕ)) (bef
   not_zero refusal.Output = omega arith
   not_zero refusal.Memory = omega arith
 
-  pub text_holds : (r : Result (Unit {0}) Refusal) (status : ℕ) → status ≡ status_in r → Ended r → status ≡ 0 → WritesReply words files old new
+  pub text_holds : (r : Result (Unit {0}) Refusal) (status : ℕ) → status ≡ status_in r → Ended r → status ≡ 0 → WritesReply words files Whole
   text_holds (Ok u) status is a zero_is = λ name asked asks.
-      let fact = asked_fact words (λ name asked. (text : List ℕ) × OfFile (files name) (λ file. IsReply file asked text) × Appends old new text) a name asked asks in
+      let fact = asked_fact words (λ name asked. (text : List ℕ) × OfFile (files name) (λ file. IsReply file asked text) × Whole text) a name asked asks in
       if_told (files name) _ _ (λ file both. (fact.0, both.1, fact.2)) fact.1
   text_holds (Err e) status is a zero_is = absurd (not_zero e (sym is ∙ zero_is))
 
@@ -270,7 +269,7 @@ module _ (words : List (List ℕ)) (files : List ℕ → Option (List ℕ)) (bef
   -- the steps after the file is read
   pub file_facts : (r : Result (Unit {0}) Refusal) (status : ℕ) → status ≡ status_in r → Ended r → WasRead status → ForAsked words (λ name asked. IfSome (files name) (λ file. Facts status file asked))
   file_facts (Ok u) status is a read = λ name asked asks.
-      let fact = asked_fact words (λ name asked. (text : List ℕ) × OfFile (files name) (λ file. IsReply file asked text) × Appends old new text) a name asked asks in
+      let fact = asked_fact words (λ name asked. (text : List ℕ) × OfFile (files name) (λ file. IsReply file asked text) × Whole text) a name asked asks in
       if_told (files name) _ _ (λ file both. replied status file asked (omega arith) (omega arith) (omega arith) both.0 (has_reply file asked fact.0 both.1)) fact.1
   file_facts (Err refusal.Words) status is a read = absurd (read.0 is)
   file_facts (Err (refusal.Shelf told)) status is a read = absurd (read.1 is)
@@ -315,7 +314,7 @@ module _ (words : List (List ℕ)) (files : List ℕ → Option (List ℕ)) (bef
   output_holds refusal.Output status is a six = a.1
   output_holds refusal.Memory status is a six = absurd (omega arith)
 
-  pub part_holds : (e : Refusal) (status : ℕ) → status ≡ status_of e → Ended (Err e) → status ≡ 6 → WritesPart words files old new
+  pub part_holds : (e : Refusal) (status : ℕ) → status ≡ status_of e → Ended (Err e) → status ≡ 6 → WritesReply words files Stops
   part_holds refusal.Words status is a six = absurd (omega arith)
   part_holds (refusal.Shelf told) status is a six = absurd (omega arith)
   part_holds (refusal.TooLong told) status is a six = absurd (omega arith)
@@ -484,16 +483,16 @@ file_list file image from steps place text entered is code lists = record {
 }
 
 -- how a request ends whose file doesn't answer
-refused_by : (words : List (List ℕ)) (files : List ℕ → Option (List ℕ)) (before now : List ℕ → ℕ) (old : Option (List ℕ)) (faults : ℕ) (name bytes : List ℕ) (asked : Task) (why : NoReply)
-    → Asks words name asked → Gives (files name) bytes → length bytes ≤ image_limit → Replies bytes asked (Err why) → Answers words files before now old old faults faults (Err (refusal_of why))
-refused_by words files before now old faults name bytes asked (none.Image cause) asks gives short fact = (record { name = name; asked = asked; asks = asks; fact = of_file (files name) bytes _ gives short fact }, refl)
-refused_by words files before now old faults name bytes asked none.Entry asks gives short fact = (record { name = name; asked = asked; asks = asks; fact = of_file (files name) bytes _ gives short fact }, refl)
-refused_by words files before now old faults name bytes asked (none.Unsupported at) asks gives short fact = (record { name = name; asked = asked; asks = asks; fact = of_file (files name) bytes _ gives short fact }, refl)
-refused_by words files before now old faults name bytes asked (none.Absent at) asks gives short fact = (record { name = name; asked = asked; asks = asks; fact = of_file (files name) bytes _ gives short fact }, refl)
-refused_by words files before now old faults name bytes asked none.Memory asks gives short fact = (record { name = name; asked = asked; asks = asks; fact = tt }, refl)
+refused_by : (words : List (List ℕ)) (files : List ℕ → Option (List ℕ)) (before now : List ℕ → ℕ) (old : Option (List ℕ)) (Whole Stops : List ℕ → Type 0) (faults : ℕ) (name bytes : List ℕ) (asked : Task) (why : NoReply)
+    → Asks words name asked → Gives (files name) bytes → length bytes ≤ image_limit → Replies bytes asked (Err why) → Answers words files before now old old Whole Stops faults faults (Err (refusal_of why))
+refused_by words files before now old Whole Stops faults name bytes asked (none.Image cause) asks gives short fact = (record { name = name; asked = asked; asks = asks; fact = of_file (files name) bytes _ gives short fact }, refl)
+refused_by words files before now old Whole Stops faults name bytes asked none.Entry asks gives short fact = (record { name = name; asked = asked; asks = asks; fact = of_file (files name) bytes _ gives short fact }, refl)
+refused_by words files before now old Whole Stops faults name bytes asked (none.Unsupported at) asks gives short fact = (record { name = name; asked = asked; asks = asks; fact = of_file (files name) bytes _ gives short fact }, refl)
+refused_by words files before now old Whole Stops faults name bytes asked (none.Absent at) asks gives short fact = (record { name = name; asked = asked; asks = asks; fact = of_file (files name) bytes _ gives short fact }, refl)
+refused_by words files before now old Whole Stops faults name bytes asked none.Memory asks gives short fact = (record { name = name; asked = asked; asks = asks; fact = tt }, refl)
 
-pub refused : (words : List (List ℕ)) (files : List ℕ → Option (List ℕ)) (before now : List ℕ → ℕ) (old : Option (List ℕ)) (faults : ℕ) (name bytes : List ℕ) (asked : Task) (r : Result (Vec ℕ Global) NoReply) (why : NoReply)
-    → Asks words name asked → Gives (files name) bytes → length bytes ≤ image_limit → Replies bytes asked r → r ≡ Err why → Answers words files before now old old faults faults (Err (refusal_of why))
-refused words files before now old faults name bytes asked r why asks gives short replies is =
+pub refused : (words : List (List ℕ)) (files : List ℕ → Option (List ℕ)) (before now : List ℕ → ℕ) (old : Option (List ℕ)) (Whole Stops : List ℕ → Type 0) (faults : ℕ) (name bytes : List ℕ) (asked : Task) (r : Result (Vec ℕ Global) NoReply) (why : NoReply)
+    → Asks words name asked → Gives (files name) bytes → length bytes ≤ image_limit → Replies bytes asked r → r ≡ Err why → Answers words files before now old old Whole Stops faults faults (Err (refusal_of why))
+refused words files before now old Whole Stops faults name bytes asked r why asks gives short replies is =
     let fact : Replies bytes asked (Err why) = subst (λ x. Replies bytes asked x) is replies in
-    refused_by words files before now old faults name bytes asked why asks gives short fact
+    refused_by words files before now old Whole Stops faults name bytes asked why asks gives short fact

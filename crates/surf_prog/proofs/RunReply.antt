@@ -3,6 +3,8 @@ use Rattle.std.proofs.Common.{◌≡◌, ℕ, zero, suc, ◌<◌, List, [], ◌�
 use Rattle.std.specs.Prelude.{false, Contains, Option}
 use Rattle.std.specs.List.{flat_map}
 use Rattle.std.proofs.lemmas.Option.{IfSome_then}
+use Rattle.surf_base.specs.Sink.{Appends, WritesLines}
+use Rattle.surf_base.proofs.TextLines.{lines_append}
 use Rattle.surf_prog.specs.declared.words.Task.{Task}
 use Rattle.surf_prog.specs.declared.words.Task.TheVariants as task
 use Rattle.surf_prog.specs.Reply.{address_line, slice_head, slice_end, slice_text}
@@ -45,6 +47,12 @@ reply_tells_dependences file (task.Slice at) text reply = slice_tells_dependence
 reply_tells_dependences file (task.List from steps) text reply = tt
 
 -- so does what a request writes
-pub writes_dependences : (words : List (List ℕ)) (files : List ℕ → Option (List ℕ)) (old new : Option (List ℕ)) → WritesReply words files old new → WritesDependences words files old new
+pub writes_dependences : (words : List (List ℕ)) (files : List ℕ → Option (List ℕ)) (old new : Option (List ℕ)) → WritesReply words files (λ text. Appends old new text) → WritesDependences words files old new
 writes_dependences words files old new writes name asked asks =
     IfSome_then (files name) (writes name asked asks) (λ file reply. (reply.0, reply_tells_dependences file asked reply.0 reply.1, reply.2))
+
+-- a reply that was written line by line was appended
+pub reply_appends : {K : Type 0} (written : K → Option (List ℕ)) (faults : K → ℕ) (before after : K) (words : List (List ℕ)) (files : List ℕ → Option (List ℕ))
+    → WritesReply words files (λ text. WritesLines written faults before text after) → WritesReply words files (λ text. Appends (written before) (written after) text)
+reply_appends written faults before after words files writes name asked asks =
+    IfSome_then (files name) (writes name asked asks) (λ file reply. (reply.0, reply.1, lines_append written faults before after reply.0 reply.2))

@@ -3,7 +3,6 @@ use Rattle.std.specs.Prelude.{◌≡◌, ℕ, ◌≤◌, List, length, Option, I
 use Rattle.std.specs.declared.alloc.Global.{Global}
 use Rattle.surf_base.specs.Faults.{Rose}
 use Rattle.surf_base.specs.Shelf.{IsLonger}
-use Rattle.surf_base.specs.Sink.{Appends, AppendsLines}
 use Rattle.image_map.specs.declared.image.Image.{Image}
 use Rattle.surf_prog.specs.declared.request.NoReply.{NoReply}
 use Rattle.surf_prog.specs.declared.request.NoReply.TheVariants as none
@@ -52,26 +51,27 @@ abbrev pub OfFile : Option (List ℕ) → (List ℕ → Type 0) → Type 0
 OfFile file P = IfSome file (λ bytes. (length bytes ≤ image_limit) × P bytes)
 
 -- How a request ends, before a refusal is told: the files of the shelf, its counts of faults before and after, the output
--- before and after, and its counts.
-abbrev pub Answers : List (List ℕ) → (List ℕ → Option (List ℕ)) → (List ℕ → ℕ) → (List ℕ → ℕ) → Option (List ℕ) → Option (List ℕ) → ℕ → ℕ → Result (Unit {0}) Refusal → Type 0
-Answers words files before now old new faults_before faults_now (Ok _) =
-    Asked words (λ name asked. (text : List ℕ) × OfFile (files name) (λ file. IsReply file asked text) × Appends old new text)
-Answers words files before now old new faults_before faults_now (Err refusal.Words) = AsksNothing words × (new ≡ old)
-Answers words files before now old new faults_before faults_now (Err (refusal.Shelf told)) =
+-- before and after, what holds of a text that it took whole or up to a fault, and its counts.
+abbrev pub Answers : List (List ℕ) → (List ℕ → Option (List ℕ)) → (List ℕ → ℕ) → (List ℕ → ℕ) → Option (List ℕ) → Option (List ℕ)
+    → (List ℕ → Type 0) → (List ℕ → Type 0) → ℕ → ℕ → Result (Unit {0}) Refusal → Type 0
+Answers words files before now old new Whole Stops faults_before faults_now (Ok _) =
+    Asked words (λ name asked. (text : List ℕ) × OfFile (files name) (λ file. IsReply file asked text) × Whole text)
+Answers words files before now old new Whole Stops faults_before faults_now (Err refusal.Words) = AsksNothing words × (new ≡ old)
+Answers words files before now old new Whole Stops faults_before faults_now (Err (refusal.Shelf told)) =
     Asked words (λ name asked. (name ≡ told.now) × Rose (before name) (now name)) × (new ≡ old)
-Answers words files before now old new faults_before faults_now (Err (refusal.TooLong told)) =
+Answers words files before now old new Whole Stops faults_before faults_now (Err (refusal.TooLong told)) =
     Asked words (λ name asked. (name ≡ told.now) × IsLonger (files name) image_limit) × (new ≡ old)
-Answers words files before now old new faults_before faults_now (Err (refusal.Image cause)) =
+Answers words files before now old new Whole Stops faults_before faults_now (Err (refusal.Image cause)) =
     Asked words (λ name asked. OfFile (files name) (λ file. HasNoImage file cause)) × (new ≡ old)
-Answers words files before now old new faults_before faults_now (Err refusal.Entry) =
+Answers words files before now old new Whole Stops faults_before faults_now (Err refusal.Entry) =
     Asked words (λ name asked. OfFile (files name) HasNoEntry) × (new ≡ old)
-Answers words files before now old new faults_before faults_now (Err (refusal.Unsupported at)) =
+Answers words files before now old new Whole Stops faults_before faults_now (Err (refusal.Unsupported at)) =
     Asked words (λ name asked. OfFile (files name) (λ file. IsUnsupported file asked at)) × (new ≡ old)
-Answers words files before now old new faults_before faults_now (Err (refusal.Absent at)) =
+Answers words files before now old new Whole Stops faults_before faults_now (Err (refusal.Absent at)) =
     Asked words (λ name asked. OfFile (files name) (λ file. IsAbsent file asked at)) × (new ≡ old)
-Answers words files before now old new faults_before faults_now (Err refusal.Output) =
-    Asked words (λ name asked. (text : List ℕ) × OfFile (files name) (λ file. IsReply file asked text) × AppendsLines old new text) × Rose faults_before faults_now
-Answers words files before now old new faults_before faults_now (Err refusal.Memory) = Asked words (λ name asked. Unit {0}) × (new ≡ old)
+Answers words files before now old new Whole Stops faults_before faults_now (Err refusal.Output) =
+    Asked words (λ name asked. (text : List ℕ) × OfFile (files name) (λ file. IsReply file asked text) × Stops text) × Rose faults_before faults_now
+Answers words files before now old new Whole Stops faults_before faults_now (Err refusal.Memory) = Asked words (λ name asked. Unit {0}) × (new ≡ old)
 
 abbrev pub line_of : Refusal → List ℕ
 line_of refusal.Words = words_line

@@ -3,7 +3,7 @@ use Rattle.std.specs.Prelude.{◌≡◌, ◌≢◌, ◌⊎◌, ℕ, true, false,
 use Rattle.std.specs.List.{flat_map}
 use Rattle.std.specs.Fmt.{decimal}
 use Rattle.surf_base.specs.Hex.{hex8_text}
-use Rattle.surf_base.specs.Sink.{Appends, AppendsPart, AppendsLines}
+use Rattle.surf_base.specs.Sink.{Appends, AppendsPart}
 use Rattle.surf_base.specs.Faults.{Rose}
 use Rattle.ia32_types.specs.declared.Instr.{Instr}
 use Rattle.image_map.specs.declared.image.Image.{Image}
@@ -175,13 +175,9 @@ ForAsked words P = (name : List ℕ) (asked : Task) → Asks words name asked �
 abbrev pub AsksNothing : List (List ℕ) → Type 0
 AsksNothing words = (name : List ℕ) (asked : Task) → ¬ Asks words name asked
 
--- the reply that is asked for was appended
-abbrev pub WritesReply : List (List ℕ) → (List ℕ → Option (List ℕ)) → Option (List ℕ) → Option (List ℕ) → Type 0
-WritesReply words files old new = ForAsked words (λ name asked. IfSome (files name) (λ file. (text : List ℕ) × IsReply file asked text × Appends old new text))
-
--- whole lines of it were appended, and some beginning of the line that follows
-abbrev pub WritesPart : List (List ℕ) → (List ℕ → Option (List ℕ)) → Option (List ℕ) → Option (List ℕ) → Type 0
-WritesPart words files old new = ForAsked words (λ name asked. IfSome (files name) (λ file. (text : List ℕ) × IsReply file asked text × AppendsLines old new text))
+-- this holds of the reply that is asked for, and where its file is told, it is that file's
+abbrev pub WritesReply : List (List ℕ) → (List ℕ → Option (List ℕ)) → (List ℕ → Type 0) → Type 0
+WritesReply words files Written = ForAsked words (λ name asked. IfSome (files name) (λ file. (text : List ℕ) × IsReply file asked text × Written text))
 
 -- a status is one of these
 abbrev pub IsStatus : ℕ → Type 0

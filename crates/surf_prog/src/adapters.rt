@@ -62,6 +62,8 @@ impl<R: Files> Shelf for FileShelf<'_, R> {
 
     ghost faults = { λ shelf name. shelf.faults };
 
+    ghost SharesCount = { λ shelf name other. Unit {0} };
+
     fn read(&mut self, alloc: Global, name: &str, limit: u32) -> Result<Vec<u8>, ShelfError> {
         let unread = match fs::open(self.files, name) {
             Ok(mut file) => match read_all(alloc, &mut file, limit) {

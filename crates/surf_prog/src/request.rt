@@ -7,8 +7,9 @@ ghost use Rattle.elf32.specs.declared.error.ElfError.{ElfError as Cause};
 ghost use Rattle.elf32.specs.Loading.{Loads};
 ghost use Rattle.surf_base.specs.Faults.{Rose};
 ghost use Rattle.surf_base.specs.Shelf.{IsLonger};
+ghost use Rattle.surf_base.specs.Sink.{Appends, WritesLines, StopsInLine};
 ghost use Rattle.surf_prog.specs.declared.words.Task.TheVariants as kinds;
-ghost use Rattle.surf_prog.specs.Once.{image_limit, first_place as place_of_first, ForAsked, AsksNothing, HasReply, HasNoImage, HasNoEntry, WritesReply, WritesPart, IsUnsupported, IsAbsent, WasRead, IsStatus, WritesNothing, TellsLine, shelf_line, too_long_line, ErrorLines};
+ghost use Rattle.surf_prog.specs.Once.{image_limit, first_place as place_of_first, ForAsked, AsksNothing, HasReply, HasNoImage, HasNoEntry, WritesReply, IsUnsupported, IsAbsent, WasRead, IsStatus, WritesNothing, TellsLine, shelf_line, too_long_line, ErrorLines};
 ghost use Rattle.surf_prog.specs.RunReply.{WritesDependences};
 ghost use Rattle.surf_prog.specs.Answer.{Replies, RepliesFrom, IsNoImage, Answers};
 
@@ -162,7 +163,8 @@ fn answer<'a, F: Shelf, K: Sink>(
     out: &mut K,
 ) -> Result<(), Refusal<'a>>
     ensures { Answers (map string_bytes words.now) (F.file shelf.old) (F.faults shelf.old) (F.faults shelf.new)
-        (K.written out.old) (K.written out.new) (K.faults out.old) (K.faults out.new) result }
+        (K.written out.old) (K.written out.new) (λ text. WritesLines K.written K.faults out.old text out.new) (λ text. StopsInLine K.written K.faults out.old text out.new)
+        (K.faults out.old) (K.faults out.new) result }
 {
     let Some(request) = asked(words) else {
         return Err(Refusal::Words);
@@ -192,7 +194,10 @@ pub fn once<F: Shelf, K: Sink, E: Sink>(
     ensures statuses { IsStatus result }
 
     // At status 0 the whole reply was appended.
-    ensures text { result ≡ 0 → WritesReply (map string_bytes words.now) (F.file shelf.old) (K.written out.old) (K.written out.new) }
+    ensures text { result ≡ 0 → WritesReply (map string_bytes words.now) (F.file shelf.old) (λ text. Appends (K.written out.old) (K.written out.new) text) }
+
+    // It was written by one call a line.
+    ensures lines { result ≡ 0 → WritesReply (map string_bytes words.now) (F.file shelf.old) (λ text. WritesLines K.written K.faults out.old text out.new) }
 
     // And wherever in a run of the file's image an occurrence at the criterion depends on another, the reply to a slice has that one's address.
     ensures dependences { result ≡ 0 → WritesDependences (map string_bytes words.now) (F.file shelf.old) (K.written out.old) (K.written out.new) }
@@ -215,9 +220,9 @@ pub fn once<F: Shelf, K: Sink, E: Sink>(
     // 9 exactly where the code from the entry on of a file that was read isn't straight, and a slice is asked.
     ensures unsupported { WasRead result → ForAsked (map string_bytes words.now) (λ name asked. IfSome (F.file shelf.old name) (λ file. (result ≡ 9) ↔ ((at : ℕ) × IsUnsupported file asked at))) }
 
-    // 6 only where the output's count rose, and some beginning of the reply was appended.
+    // 6 only where the output's count rose: a call for some line failed, after one for each line before it.
     ensures output { result ≡ 6 → Rose (K.faults out.old) (K.faults out.new) }
-    ensures part { result ≡ 6 → WritesPart (map string_bytes words.now) (F.file shelf.old) (K.written out.old) (K.written out.new) }
+    ensures part { result ≡ 6 → WritesReply (map string_bytes words.now) (F.file shelf.old) (λ text. StopsInLine K.written K.faults out.old text out.new) }
 
     // Nothing is written before the last step.
     ensures untouched { WritesNothing result (K.written out.old) (K.written out.new) }
