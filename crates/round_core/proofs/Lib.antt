@@ -1,9 +1,9 @@
 pub mod FlagLemmas
-pub mod FreeSlot
-pub mod LaneLaws
-pub mod LaneSteps
+pub mod FreeSlotLemmas
+pub mod LaneLemmas
+pub mod LaneStepLemmas
 pub mod SlotLemmas
-pub mod StateLaws
-pub mod Tests
-pub mod TheLaws
+pub mod StateLemmas
+pub mod ListLemmas
+pub mod LawLemmas
 pub mod WordLemmas

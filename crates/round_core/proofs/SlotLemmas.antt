@@ -6,14 +6,13 @@ use Rattle.std.specs.Ordering.{nat_cmp}
 use Rattle.std.proofs.Common.{inl, inr}
 use Rattle.std.proofs.lemmas.Cmp.{nat_cmp_total}
 use Rattle.std.specs.FinMap.{nat_cmp-IsAntisymmetric}
-use Rattle.std.proofs.lemmas.Bool.{eqb-true, eq-eqb, true≢false}
+use Rattle.std.proofs.lemmas.Bool.{eqb-true, eq-eqb, true≢false, both_ways}
 use Rattle.round_core.specs.declared.lane.Slot.{Slot}
 use Rattle.round_core.specs.declared.lane.Slot.TheVariants.{Empty, Taken, Filled}
 use Rattle.round_core.specs.State.{is_free, is_taken_by, is_filled, is_filled_with, is_read_by}
 use Rattle.round_core.specs.Protocol.{entered, left}
 use Rattle.round_core.specs.Laws.{round_of}
 use Rattle.round_core.proofs.FlagLemmas.{contains-insert_same, contains-insert_other, contains-remove_same, contains-remove_other}
-use Rattle.round_core.proofs.Tests.{never}
 
 pub taken-entered : (x : Slot) (seat a : ℕ) → is_taken_by (entered x seat) a ≡ is_taken_by x a
 taken-entered Empty seat a = refl
@@ -60,7 +59,7 @@ insert_old rs seat a h = at (a == seat) refl where
 remove_old : (rs : sets.FinSet nat_cmp) (seat a : ℕ) → sets.contains (sets.remove rs seat) a ≡ true → sets.contains rs a ≡ true
 remove_old rs seat a h = at (a == seat) refl where
   at : (same : Bool) → (a == seat) ≡ same → sets.contains rs a ≡ true
-  at true e = never (sets.contains (sets.remove rs seat) a) h (subst (λ b. sets.contains (sets.remove rs seat) b ≡ false) (sym (eqb-true a seat e)) (contains-remove_same rs seat))
+  at true e = absurd (both_ways (sets.contains (sets.remove rs seat) a) (subst (λ b. sets.contains (sets.remove rs seat) b ≡ false) (sym (eqb-true a seat e)) (contains-remove_same rs seat)) h)
   at false e = let ne : a ≢ seat = λ is. true≢false (sym (eq-eqb a seat is) ∙ e) in sym (contains-remove_other rs seat a ne) ∙ h
 
 -- who reads a slot that one seat entered or left

@@ -107,13 +107,18 @@ ends_claim lane seat (Leave _ _ _) = false
 ends_claim lane seat (Take _ _ _) = false
 ends_claim lane seat (Put _ _ _ _) = false
 
+-- no event of the list ends the claim where it is allowed: a giving up or publishing that is refused ends nothing
+abbrev pub ClaimLasts : ℕ → ℕ → List Event → List LaneState → Type 0
+ClaimLasts lane seat [] s = Unit {0}
+ClaimLasts lane seat (e ∷ later) s = ((is_allowed s e && ends_claim lane seat e) ≡ false) × ClaimLasts lane seat later (happens s e)
+
 -- Until the claimer publishes or gives up, it stays the claimer, and the word stays as it is.
 abbrev pub ClaimerAloneChangesWord : Type 0
 ClaimerAloneChangesWord =
     (lanes seats : ℕ) (events later : List Event) (lane seat : ℕ)
     → let s = reached lanes seats events in
     IsTrue (claims s lane seat)
-    → AllByRecursion (λ e. ends_claim lane seat e ≡ false) later
+    → ClaimLasts lane seat later s
     → IsTrue (claims (run later s) lane seat) × (word_at (run later s) lane ≡ word_at s lane)
 
 -- the round is at most the word's, and where it is the word's, so is the slot

@@ -1,4 +1,4 @@
-use Rattle.round_core.proofs.TheLaws.{one_claimer_is, claimer_is_marked_is, claimer_alone_changes_word_is}
+use Rattle.round_core.proofs.LawLemmas.{one_claimer_is, claimer_is_marked_is, claimer_alone_changes_word_is}
 use Rattle.round_core.proofs.laws.claimer_alone_changes_word.Goals as goal
 
 pub returns-clause-one : goal.returns-clause-one

@@ -1,4 +1,4 @@
-use Rattle.round_core.proofs.TheLaws.{round_rises_at_publish_is, round_never_falls_is, named_slot_is_filled_is, word_fits_is}
+use Rattle.round_core.proofs.LawLemmas.{round_rises_at_publish_is, round_never_falls_is, named_slot_is_filled_is, word_fits_is}
 use Rattle.round_core.proofs.laws.word_rises_at_publish.Goals as goal
 
 pub returns-clause-rises : goal.returns-clause-rises

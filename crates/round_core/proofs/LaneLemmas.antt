@@ -1,14 +1,14 @@
 -- What each lane keeps, whatever event happens in it.
 use Rattle.std.proofs.Common.{◌≡◌, ◌≢◌, ℕ, ◌+◌, ◌<◌, true, false, length, set, refl, sym, ◌∙◌, subst, arith, length-set}
 use Rattle.std.specs.Prelude.{Option, None, Some, is_some}
-use Rattle.std.proofs.lemmas.Bool.{eqb-true, true≢false}
+use Rattle.std.proofs.lemmas.Bool.{eqb-true, true≢false, both_ways}
 use Rattle.round_core.specs.declared.word.Word.{Word}
 use Rattle.round_core.specs.declared.lane.Slot.{Slot}
 use Rattle.round_core.specs.declared.lane.Slot.TheVariants.{Empty}
 use Rattle.round_core.specs.State.{LaneState, slot_at, loaded_by, is_taken_by, is_filled_with, is_read_by, is_seat}
 use Rattle.round_core.specs.Protocol.{has_taken, with_word, with_slot}
 use Rattle.round_core.specs.Laws.{IsNoNewer}
-use Rattle.round_core.proofs.Tests.{never, none_at, at_set}
+use Rattle.round_core.proofs.ListLemmas.{none_at, at_set}
 
 pub record LaneKept (seats : ℕ) (l : LaneState) : Type 0 where
   pub slots : length l.slots ≡ seats + 2
@@ -101,9 +101,7 @@ kept_claim seats l seat h in_range free below =
 
 pub none_taken : (seats : ℕ) (l : LaneState) (seat : ℕ) → LaneKept seats l → is_seat l.claimer seat ≡ true → has_taken l seat ≡ false → (k a : ℕ) → is_taken_by (slot_at l k) a ≡ true → ⊥
 none_taken seats l seat h is none k a taken =
-    never (is_taken_by (slot_at l k) seat)
-    (subst (λ b. is_taken_by (slot_at l k) b ≡ true) (seat_is l.claimer a seat (h.taker k a taken) is) taken)
-    (none_at (λ slot. is_taken_by slot seat) l.slots Empty refl none k)
+    absurd (both_ways (is_taken_by (slot_at l k) seat) (none_at (λ slot. is_taken_by slot seat) l.slots Empty refl none k) (subst (λ b. is_taken_by (slot_at l k) b ≡ true) (seat_is l.claimer a seat (h.taker k a taken) is) taken))
 
 pub kept_give_up : (seats : ℕ) (l : LaneState) (seat : ℕ) → LaneKept seats l → seat < seats → is_seat l.claimer seat ≡ true → has_taken l seat ≡ false → LaneKept seats (with_word l seat (record l.word { claimed = false }) None)
 kept_give_up seats l seat h in_range is none =
@@ -119,8 +117,8 @@ kept_publish seats l seat slot h in_range is next =
     let below : l.word.round < 4294967295 = h.limit (h.marked ∙ some_seat l.claimer seat is) in
     kept_word seats l seat (record { round = l.word.round + 1; claimed = false; slot = slot }) None h in_range next refl (omega arith) (λ claimed. absurd (true≢false (sym claimed)))
     (λ a is. absurd (true≢false (sym is)))
-    (λ k a taken. never (is_filled_with (slot_at l slot) (l.word.round + 1)) next (h.apart k slot a taken))
-    (λ k m a taken. never (is_filled_with (slot_at l slot) (l.word.round + 1)) next (h.apart k slot a taken))
+    (λ k a taken. absurd (both_ways (is_filled_with (slot_at l slot) (l.word.round + 1)) (h.apart k slot a taken) next))
+    (λ k m a taken. absurd (both_ways (is_filled_with (slot_at l slot) (l.word.round + 1)) (h.apart k slot a taken) next))
     (λ v older. record { round = omega (arith, older.round); slot = λ same. absurd (omega (arith, older.round)) })
 
 -- one slot changes

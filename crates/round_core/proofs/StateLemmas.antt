@@ -4,7 +4,7 @@ use Rattle.std.specs.Prelude.{◌⊎◌, Option, None, Some, replicate}
 use Rattle.std.specs.List.{list_any}
 use Rattle.std.specs.FinSet as sets
 use Rattle.std.specs.Ordering.{nat_cmp}
-use Rattle.std.proofs.lemmas.Bool.{true≢false, ltb-true, cond_both}
+use Rattle.std.proofs.lemmas.Bool.{true≢false, ltb-true, cond_both, and_parts, both_ways}
 use Rattle.std.proofs.lemmas.List.{length-replicate, get_or-replicate}
 use Rattle.round_core.specs.declared.word.Word.{Word}
 use Rattle.round_core.specs.declared.lane.Slot.{Slot}
@@ -14,9 +14,9 @@ use Rattle.round_core.specs.Event.{lane_of, seat_of, slot_of}
 use Rattle.round_core.specs.State.{LaneState, lane_at, no_lane, slot_at, is_taken_by, is_filled_with, is_read_by, is_seat}
 use Rattle.round_core.specs.Protocol.{first_lane, start, reads_in, has_slot, has_place, allows, is_allowed, after, change, happens, run}
 use Rattle.round_core.specs.Laws.{IsNoNewer, reads, reached}
-use Rattle.round_core.proofs.Tests.{and_first, and_last, never, none_at, at_set}
-use Rattle.round_core.proofs.LaneLaws.{LaneKept}
-use Rattle.round_core.proofs.LaneSteps.{Entered, kept-after, read-after}
+use Rattle.round_core.proofs.ListLemmas.{none_at, at_set}
+use Rattle.round_core.proofs.LaneLemmas.{LaneKept}
+use Rattle.round_core.proofs.LaneStepLemmas.{Entered, kept-after, read-after}
 
 pub record Kept (lanes seats : ℕ) (s : List LaneState) : Type 0 where
   pub count : length s ≡ lanes
@@ -32,12 +32,12 @@ pub record Placed (s : List LaneState) (e : Event) : Type 0 where
 
 pub placed : (s : List LaneState) (e : Event) → is_allowed s e ≡ true → Placed s e
 placed s e h =
-    let there = and_first (has_place s e) (allows s (lane_at s (lane_of e)) e) h in
+    let there = (and_parts (has_place s e) (allows s (lane_at s (lane_of e)) e) h).0 in
     record {
-      lane = ltb-true _ _ (and_first _ _ (and_first _ _ there));
-      seat = ltb-true _ _ (and_last _ _ (and_first _ _ there));
-      slot = and_last _ _ there;
-      row = and_last (has_place s e) (allows s (lane_at s (lane_of e)) e) h;
+      lane = ltb-true _ _ ((and_parts _ _ ((and_parts _ _ there).0)).0);
+      seat = ltb-true _ _ ((and_parts _ _ ((and_parts _ _ there).0)).1);
+      slot = (and_parts _ _ there).1;
+      row = (and_parts (has_place s e) (allows s (lane_at s (lane_of e)) e) h).1;
     }
 
 -- a fact of a lane after an allowed event
@@ -68,8 +68,8 @@ one_after : (s : List LaneState) (e : Event) (i j k m a : ℕ)
     → ((i j k m a : ℕ) → reads s i k a ≡ true → reads s j m a ≡ true → (i ≡ j) × (k ≡ m))
     → (reads s i k a ≡ true) ⊎ Newcomer s e i k a → (reads s j m a ≡ true) ⊎ Newcomer s e j m a → (i ≡ j) × (k ≡ m)
 one_after s e i j k m a one (inl x) (inl y) = one i j k m a x y
-one_after s e i j k m a one (inl x) (inr y) = never _ x (nothing_read s i k a y.entered.fresh)
-one_after s e i j k m a one (inr x) (inl y) = never _ y (nothing_read s j m a x.entered.fresh)
+one_after s e i j k m a one (inl x) (inr y) = absurd (both_ways _ (nothing_read s i k a y.entered.fresh) x)
+one_after s e i j k m a one (inr x) (inl y) = absurd (both_ways _ (nothing_read s j m a x.entered.fresh) y)
 one_after s e i j k m a one (inr x) (inr y) = (x.lane_is ∙ sym y.lane_is, some_same k m (sym x.entered.slot_is ∙ y.entered.slot_is))
 
 kept-change : (lanes seats : ℕ) (s : List LaneState) (e : Event) → Kept lanes seats s → Placed s e → Kept lanes seats (change s e)
@@ -125,7 +125,7 @@ start_kept : (lanes seats : ℕ) → Kept lanes seats (start lanes seats)
 start_kept lanes seats = record {
   count = length-replicate lanes (first_lane seats);
   each = λ i in_range. let here : i < lanes = omega (arith, in_range, length-replicate lanes (first_lane seats)) in subst (λ l. LaneKept seats l) (sym (get_or-replicate lanes i (first_lane seats) no_lane here)) (first_kept seats);
-  one = λ i j k m a x _. never _ x (nobody_reads lanes seats i k a);
+  one = λ i j k m a x _. absurd (both_ways _ (nobody_reads lanes seats i k a) x);
 }
 
 -- every state that events lead to keeps it

@@ -4,7 +4,7 @@ use Rattle.std.specs.Prelude.{◌⊎◌, Option, Some}
 use Rattle.std.specs.List.{list_any}
 use Rattle.std.specs.FinSet as sets
 use Rattle.std.specs.Ordering.{nat_cmp}
-use Rattle.std.proofs.lemmas.Bool.{eqb-true, eq-eqb, true≢false, ltb-true}
+use Rattle.std.proofs.lemmas.Bool.{eqb-true, eq-eqb, true≢false, ltb-true, and_parts, not-true, both_ways}
 use Rattle.round_core.specs.declared.lane.Slot.{Slot}
 use Rattle.round_core.specs.declared.lane.Slot.TheVariants.{Empty, Taken, Filled}
 use Rattle.round_core.specs.declared.event.Event.{Event}
@@ -13,9 +13,9 @@ use Rattle.round_core.specs.Event.{lane_of, seat_of, slot_of}
 use Rattle.round_core.specs.State.{LaneState, slot_at, is_taken_by, is_filled_with, is_read_by, is_seat}
 use Rattle.round_core.specs.Protocol.{has_taken, holds_next, reads_in, has_slot, allows, with_slot, entered, left, after}
 use Rattle.round_core.specs.Laws.{round_of}
-use Rattle.round_core.proofs.Tests.{and_first, and_last, not_true, never, none_at, at_set}
+use Rattle.round_core.proofs.ListLemmas.{none_at, at_set}
 use Rattle.round_core.proofs.SlotLemmas.{taken-entered, taken-left, filled-entered, filled-left, round-entered, round-left, read-entered, read_kept-entered, read-left, read_kept-left, taken-not_filled, taken-not_read, free-not_read}
-use Rattle.round_core.proofs.LaneLaws.{LaneKept, none_taken, kept_load, kept_claim, kept_give_up, kept_publish, kept_slot}
+use Rattle.round_core.proofs.LaneLemmas.{LaneKept, none_taken, kept_load, kept_claim, kept_give_up, kept_publish, kept_slot}
 
 -- a slot changes and is taken and filled as before
 kept_same : (seats : ℕ) (l : LaneState) (slot : ℕ) (y : Slot) → LaneKept seats l → slot < length l.slots
@@ -58,7 +58,7 @@ kept_take seats l seat slot h exists claims none next other =
 kept_put : (seats : ℕ) (l : LaneState) (seat slot round : ℕ) → LaneKept seats l → slot < length l.slots → is_taken_by (slot_at l slot) seat ≡ true → LaneKept seats (with_slot l slot (Filled round sets.empty))
 kept_put seats l seat slot round h exists taken =
     kept_slot seats l slot (Filled round sets.empty) h exists
-    (λ is. never _ (subst (λ k. is_filled_with (slot_at l k) l.word.round ≡ true) is h.filled) (taken-not_filled (slot_at l slot) seat l.word.round taken))
+    (λ is. absurd (both_ways _ (taken-not_filled (slot_at l slot) seat l.word.round taken) (subst (λ k. is_filled_with (slot_at l k) l.word.round ≡ true) is h.filled)))
     (λ a t. absurd (true≢false (sym t)))
     (λ m a b t _ _. absurd (true≢false (sym t)))
     (λ m a t. absurd (true≢false (sym t)))
@@ -69,15 +69,15 @@ kept_put seats l seat slot round h exists taken =
 -- what the lane keeps, it keeps
 pub kept-after : (seats : ℕ) (s : List LaneState) (l : LaneState) (e : Event) → LaneKept seats l → seat_of e < seats → has_slot l (slot_of e) ≡ true → allows s l e ≡ true → LaneKept seats (after l e)
 kept-after seats s l (Load lane seat) h in_range exists row = kept_load seats l seat h in_range
-kept-after seats s l (Claim lane seat) h in_range exists row = kept_claim seats l seat h in_range (not_true _ (and_first _ _ (and_first _ _ row))) (ltb-true l.word.round 4294967295 (and_last _ _ (and_first _ _ row)))
-kept-after seats s l (GiveUp lane seat) h in_range exists row = kept_give_up seats l seat h in_range (and_first _ _ (and_first _ _ row)) (not_true _ (and_last _ _ (and_first _ _ row)))
-kept-after seats s l (Publish lane seat slot) h in_range exists row = kept_publish seats l seat slot h in_range (and_first _ _ row) (and_last _ _ row)
+kept-after seats s l (Claim lane seat) h in_range exists row = kept_claim seats l seat h in_range (not-true _ ((and_parts _ _ ((and_parts _ _ row).0)).0)) (ltb-true l.word.round 4294967295 ((and_parts _ _ ((and_parts _ _ row).0)).1))
+kept-after seats s l (GiveUp lane seat) h in_range exists row = kept_give_up seats l seat h in_range ((and_parts _ _ ((and_parts _ _ row).0)).0) (not-true _ ((and_parts _ _ ((and_parts _ _ row).0)).1))
+kept-after seats s l (Publish lane seat slot) h in_range exists row = kept_publish seats l seat slot h in_range ((and_parts _ _ row).0) ((and_parts _ _ row).1)
 kept-after seats s l (Enter lane seat slot) h in_range exists row = kept_enter seats l seat slot h in_range (ltb-true slot _ exists)
 kept-after seats s l (Leave lane seat slot) h in_range exists row = kept_leave seats l seat slot h (ltb-true slot _ exists)
 kept-after seats s l (Take lane seat slot) h in_range exists row =
-    let claims_it = and_first _ _ (and_first _ _ row) in
-    kept_take seats l seat slot h (ltb-true slot _ exists) (and_first _ _ (and_first _ _ claims_it)) (not_true _ (and_last _ _ (and_first _ _ claims_it))) (not_true _ (and_last _ _ claims_it)) (not_true _ (and_last _ _ (and_first _ _ row)))
-kept-after seats s l (Put lane seat slot round) h in_range exists row = kept_put seats l seat slot round h (ltb-true slot _ exists) (and_first _ _ row)
+    let claims_it = (and_parts _ _ ((and_parts _ _ row).0)).0 in
+    kept_take seats l seat slot h (ltb-true slot _ exists) ((and_parts _ _ ((and_parts _ _ claims_it).0)).0) (not-true _ ((and_parts _ _ ((and_parts _ _ claims_it).0)).1)) (not-true _ ((and_parts _ _ claims_it).1)) (not-true _ ((and_parts _ _ ((and_parts _ _ row).0)).1))
+kept-after seats s l (Put lane seat slot round) h in_range exists row = kept_put seats l seat slot round h (ltb-true slot _ exists) ((and_parts _ _ row).0)
 
 -- a seat that comes to read a slot, which read nothing before
 pub record Entered (s : List LaneState) (e : Event) (slot seat : ℕ) : Type 0 where
@@ -93,7 +93,7 @@ read-after s l (Publish lane seat slot) k a exists row r = inl r
 read-after s l (Enter lane seat slot) k a exists row r =
     at_set (λ x. is_read_by x a ≡ true → (is_read_by (slot_at l k) a ≡ true) ⊎ Entered s (Enter lane seat slot) k a) l.slots slot (entered (slot_at l slot) seat) Empty k (ltb-true slot _ exists)
     (λ is now. elim (read-entered (slot_at l slot) seat a now) [
-      | inl a_is ↦ inr (record { slot_is = ap Some (sym is); fresh = subst (λ b. list_any (reads_in b) s ≡ false) (sym a_is) (not_true _ (and_first _ _ (and_first _ _ row))) })
+      | inl a_is ↦ inr (record { slot_is = ap Some (sym is); fresh = subst (λ b. list_any (reads_in b) s ≡ false) (sym a_is) (not-true _ ((and_parts _ _ ((and_parts _ _ row).0)).0)) })
       | inr old ↦ inl (subst (λ m. is_read_by (slot_at l m) a ≡ true) (sym is) old)
     ])
     (λ _ old. inl old) r
@@ -134,9 +134,9 @@ reads_round-after s l (Leave lane seat slot) k a n exists row stays h =
     (λ _. h)
 reads_round-after s l (Take lane seat slot) k a n exists row stays h =
     at_set (λ x. ReadsRound x a n) l.slots slot (Taken seat) Empty k (ltb-true slot _ exists)
-    (λ is. let before = subst (λ m. ReadsRound (slot_at l m) a n) is h in never _ before.reader (free-not_read (slot_at l slot) a (and_last _ _ row)))
+    (λ is. let before = subst (λ m. ReadsRound (slot_at l m) a n) is h in absurd (both_ways _ (free-not_read (slot_at l slot) a ((and_parts _ _ row).1)) before.reader))
     (λ _. h)
 reads_round-after s l (Put lane seat slot round) k a n exists row stays h =
     at_set (λ x. ReadsRound x a n) l.slots slot (Filled round sets.empty) Empty k (ltb-true slot _ exists)
-    (λ is. let before = subst (λ m. ReadsRound (slot_at l m) a n) is h in never _ before.reader (taken-not_read (slot_at l slot) seat a (and_first _ _ row)))
+    (λ is. let before = subst (λ m. ReadsRound (slot_at l m) a n) is h in absurd (both_ways _ (taken-not_read (slot_at l slot) seat a ((and_parts _ _ row).0)) before.reader))
     (λ _. h)

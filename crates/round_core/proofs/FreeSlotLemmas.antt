@@ -2,10 +2,9 @@
 use Rattle.std.proofs.Common.{◌≡◌, ◌≢◌, ℕ, zero, suc, ◌+◌, ◌<◌, ◌≤◌, Bool, true, false, cond, List, [], ◌∷◌, length, get_or, refl, sym, ap, ◌∙◌, ◌==◌, subst, arith}
 use Rattle.std.specs.Prelude.{◌||◌}
 use Rattle.std.specs.List.{list_any}
-use Rattle.std.proofs.lemmas.Bool.{eqb-true, eq-eqb, ne_eqb, true≢false}
+use Rattle.std.proofs.lemmas.Bool.{eqb-true, eq-eqb, ne_eqb, true≢false, both_ways}
 use Rattle.round_core.specs.State.{LaneState, slot_at, is_free, is_taken_by, is_read_by}
 use Rattle.round_core.specs.declared.lane.Slot.TheVariants.{Empty}
-use Rattle.round_core.proofs.Tests.{never}
 use Rattle.round_core.proofs.SlotLemmas.{unread-free}
 
 -- the numbers without n
@@ -53,11 +52,11 @@ place p (x ∷ xs) = cond (p x) 0 (suc (place p xs))
 
 place_passes : {X : Type 0} (p : X → Bool) (xs : List X) (d : X) (k : ℕ) → p d ≡ false → p (get_or xs k d) ≡ true → p (get_or xs (place p xs) d) ≡ true
 unfolding place
-place_passes p [] d k fails h = never (p d) h fails
+place_passes p [] d k fails h = absurd (both_ways (p d) fails h)
 place_passes p (x ∷ xs) d k fails h = at (λ i. place_passes p xs d i fails) (p x) refl k h where
   at : ((i : ℕ) → p (get_or xs i d) ≡ true → p (get_or xs (place p xs) d) ≡ true) → (b : Bool) → p x ≡ b → (k : ℕ) → p (get_or (x ∷ xs) k d) ≡ true → p (get_or (x ∷ xs) (cond b 0 (suc (place p xs))) d) ≡ true
   at rest true e k h = e
-  at rest false e zero h = never (p x) h e
+  at rest false e zero h = absurd (both_ways (p x) e h)
   at rest false e (suc k) h = rest k h
 
 -- the slots that the seats below n read
@@ -115,4 +114,4 @@ free_slot seats l untaken below one =
       unread k a absent false e = e
       unread k a absent true e =
           let is : k ≡ place (λ x. is_read_by x a) l.slots = one k (place (λ x. is_read_by x a) l.slots) a e (place_passes (λ x. is_read_by x a) l.slots Empty k refl e) in
-          never _ (subst (λ j. list_any (λ m. m == j) (read_places l seats) ≡ true) (sym is) (read_places-has l seats a (below k a e))) absent
+          absurd (both_ways _ absent (subst (λ j. list_any (λ m. m == j) (read_places l seats) ≡ true) (sym is) (read_places-has l seats a (below k a e))))

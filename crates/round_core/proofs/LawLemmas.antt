@@ -1,8 +1,8 @@
 -- The laws over every list of events.
-use Rattle.std.proofs.Common.{◌≡◌, ◌≢◌, ℕ, zero, suc, ◌+◌, ◌<◌, ◌≤◌, Bool, true, false, cond, List, [], ◌∷◌, length, get_or, set, refl, sym, ap, ◌∙◌, ◌==◌, subst, arith, length-set}
+use Rattle.std.proofs.Common.{◌≡◌, ◌≢◌, ℕ, zero, suc, ◌+◌, ◌<◌, ◌≤◌, Bool, true, false, cond, List, [], ◌∷◌, length, get_or, set, refl, sym, ap, ◌∙◌, ◌==◌, subst, ⊎_elim, arith, length-set}
 use Rattle.std.specs.Prelude.{not, ◌&&◌, ◌||◌, nat_lt, Option, None, Some, is_some}
 use Rattle.std.specs.List.{list_any, AllByRecursion}
-use Rattle.std.proofs.lemmas.Bool.{eq-eqb, ne_eqb, lt-ltb, ltb-true, true≢false, cond_both, ltb-false}
+use Rattle.std.proofs.lemmas.Bool.{eq-eqb, ne_eqb, lt-ltb, ltb-true, true≢false, cond_both, ltb-false, and_parts, and_from, not-true, both_ways, and_cases}
 use Rattle.std.proofs.lemmas.List.{get_or_past, get_or-set_same}
 use Rattle.round_core.specs.declared.word.Word.{Word}
 use Rattle.round_core.specs.declared.lane.Slot.{Slot}
@@ -12,13 +12,12 @@ use Rattle.round_core.specs.declared.event.Event.TheVariants.{Load, Claim, GiveU
 use Rattle.round_core.specs.Event.{lane_of}
 use Rattle.round_core.specs.State.{LaneState, lane_at, no_lane, slot_at, loaded_by, is_filled, is_filled_with, is_read_by, is_seat, names_slot}
 use Rattle.round_core.specs.Protocol.{has_taken, holds_next, reads_in, allows, is_allowed, entered, after, change, happens, run}
-use Rattle.round_core.specs.Laws.{reached, word_at, claims, round_of, round_in, HasPinned, publishes_in, ends_claim, IsNoNewer, ReadSlotKeepsRound, NamedSlotIsFilled, RoundRisesAtPublish, RoundNeverFalls, WordFits, OneClaimer, ClaimerIsMarked, ClaimerAloneChangesWord, LoadedWordIsNoNewer, FreeSlotForClaimer, EnteredSlotIsPinned, LoadedSlotIsPinned}
-use Rattle.round_core.proofs.Tests.{and_first, and_last, and_true, not_true, never}
+use Rattle.round_core.specs.Laws.{reached, word_at, claims, round_of, round_in, HasPinned, publishes_in, ends_claim, ClaimLasts, IsNoNewer, ReadSlotKeepsRound, NamedSlotIsFilled, RoundRisesAtPublish, RoundNeverFalls, WordFits, OneClaimer, ClaimerIsMarked, ClaimerAloneChangesWord, LoadedWordIsNoNewer, FreeSlotForClaimer, EnteredSlotIsPinned, LoadedSlotIsPinned}
 use Rattle.round_core.proofs.SlotLemmas.{round_of-filled, filled-round_of, read-has_round, round-entered, read_same-entered}
-use Rattle.round_core.proofs.LaneLaws.{LaneKept, seat_is, no_seat, none_taken}
-use Rattle.round_core.proofs.LaneSteps.{ReadsRound, reads_round-after}
-use Rattle.round_core.proofs.StateLaws.{Kept, Placed, placed, at_lane, kept, kept-happens}
-use Rattle.round_core.proofs.FreeSlot.{Free, free_slot}
+use Rattle.round_core.proofs.LaneLemmas.{LaneKept, seat_is, no_seat, none_taken}
+use Rattle.round_core.proofs.LaneStepLemmas.{ReadsRound, reads_round-after}
+use Rattle.round_core.proofs.StateLemmas.{Kept, Placed, placed, at_lane, kept, kept-happens}
+use Rattle.round_core.proofs.FreeSlotLemmas.{Free, free_slot}
 
 -- a read slot keeps its round
 
@@ -125,26 +124,27 @@ record SameClaim (l : LaneState) (seat : ℕ) (w : Word) : Type 0 where
 
 same_claim-after : (seats : ℕ) (s : List LaneState) (l : LaneState) (e : Event) (a : ℕ) (w : Word) → LaneKept seats l → allows s l e ≡ true → ends_claim (lane_of e) a e ≡ false → SameClaim l a w → SameClaim (after l e) a w
 same_claim-after seats s l (Load lane seat) a w k row stays h = record { claims_it = h.claims_it; same = h.same }
-same_claim-after seats s l (Claim lane seat) a w k row stays h = absurd (no_seat l.claimer a (sym k.marked ∙ not_true _ (and_first _ _ (and_first _ _ row))) h.claims_it)
+same_claim-after seats s l (Claim lane seat) a w k row stays h = absurd (no_seat l.claimer a (sym k.marked ∙ not-true _ ((and_parts _ _ ((and_parts _ _ row).0)).0)) h.claims_it)
 same_claim-after seats s l (GiveUp lane seat) a w k row stays h =
-    never _ (and_true (lane == lane) (seat == a) (eq-eqb lane lane refl) (eq-eqb seat a (seat_is l.claimer seat a (and_first _ _ (and_first _ _ row)) h.claims_it))) stays
+    absurd (both_ways _ stays (and_from (lane == lane) (seat == a) (eq-eqb lane lane refl) (eq-eqb seat a (seat_is l.claimer seat a ((and_parts _ _ ((and_parts _ _ row).0)).0) h.claims_it))))
 same_claim-after seats s l (Publish lane seat slot) a w k row stays h =
-    never _ (and_true (lane == lane) (seat == a) (eq-eqb lane lane refl) (eq-eqb seat a (seat_is l.claimer seat a (and_first _ _ row) h.claims_it))) stays
+    absurd (both_ways _ stays (and_from (lane == lane) (seat == a) (eq-eqb lane lane refl) (eq-eqb seat a (seat_is l.claimer seat a ((and_parts _ _ row).0) h.claims_it))))
 same_claim-after seats s l (Enter lane seat slot) a w k row stays h = record { claims_it = h.claims_it; same = h.same }
 same_claim-after seats s l (Leave lane seat slot) a w k row stays h = record { claims_it = h.claims_it; same = h.same }
 same_claim-after seats s l (Take lane seat slot) a w k row stays h = record { claims_it = h.claims_it; same = h.same }
 same_claim-after seats s l (Put lane seat slot round) a w k row stays h = record { claims_it = h.claims_it; same = h.same }
 
-same_claim-happens : (lanes seats : ℕ) (s : List LaneState) (e : Event) (lane a : ℕ) (w : Word) → Kept lanes seats s → ends_claim lane a e ≡ false → SameClaim (lane_at s lane) a w → SameClaim (lane_at (happens s e) lane) a w
-same_claim-happens lanes seats s e lane a w k stays h =
+same_claim-happens : (lanes seats : ℕ) (s : List LaneState) (e : Event) (lane a : ℕ) (w : Word) → Kept lanes seats s → (is_allowed s e && ends_claim lane a e) ≡ false → SameClaim (lane_at s lane) a w → SameClaim (lane_at (happens s e) lane) a w
+same_claim-happens lanes seats s e lane a w k lasts h =
     cond_both (is_allowed s e) (change s e) s (λ t. SameClaim (lane_at t lane) a w)
     (λ allowed. let p = placed s e allowed in
+    let stays : ends_claim lane a e ≡ false = ⊎_elim (λ refused. absurd (both_ways (is_allowed s e) refused allowed)) (λ other. other) (and_cases (is_allowed s e) (ends_claim lane a e) lasts) in
     at_lane (λ l. SameClaim l a w) s e lane p.lane
     (λ is. same_claim-after seats s (lane_at s (lane_of e)) e a w (k.each (lane_of e) p.lane) p.row (subst (λ i. ends_claim i a e ≡ false) is stays) (subst (λ i. SameClaim (lane_at s i) a w) is h))
     (λ _. h))
     (λ _. h)
 
-same_claim-run : (lanes seats : ℕ) (later : List Event) (s : List LaneState) (lane a : ℕ) (w : Word) → Kept lanes seats s → AllByRecursion (λ e. ends_claim lane a e ≡ false) later → SameClaim (lane_at s lane) a w → SameClaim (lane_at (run later s) lane) a w
+same_claim-run : (lanes seats : ℕ) (later : List Event) (s : List LaneState) (lane a : ℕ) (w : Word) → Kept lanes seats s → ClaimLasts lane a later s → SameClaim (lane_at s lane) a w → SameClaim (lane_at (run later s) lane) a w
 same_claim-run lanes seats [] s lane a w k stays h = h
 same_claim-run lanes seats (e ∷ later) s lane a w k stays h = same_claim-run lanes seats later (happens s e) lane a w (kept-happens lanes seats s e k) stays.1 (same_claim-happens lanes seats s e lane a w k stays.0 h)
 
@@ -174,9 +174,9 @@ free_for_claimer lanes seats s lane seat k exists claims_it none next =
     let f : Free seats l = free_slot seats l (none_taken seats l seat h claims_it none) h.readers (λ i j a x y. (k.one lane lane i j a x y).1) in (
       f.slot,
       f.below,
-      and_true _ _
-          (and_true _ _ (and_true _ _ (lt-ltb lane (length s) exists) (lt-ltb seat (length l.loaded) (omega (arith, h.claimer seat claims_it, h.seats_known)))) (lt-ltb f.slot (length l.slots) (omega (arith, f.below, h.slots))))
-          (and_true _ _ (and_true _ _ (and_true _ _ (and_true _ _ claims_it (ap not none)) (ap not next)) (ap not f.other)) f.free),
+      and_from _ _
+          (and_from _ _ (and_from _ _ (lt-ltb lane (length s) exists) (lt-ltb seat (length l.loaded) (omega (arith, h.claimer seat claims_it, h.seats_known)))) (lt-ltb f.slot (length l.slots) (omega (arith, f.below, h.slots))))
+          (and_from _ _ (and_from _ _ (and_from _ _ (and_from _ _ claims_it (ap not none)) (ap not next)) (ap not f.other)) f.free),
     )
 
 pub free_slot_for_claimer_is : FreeSlotForClaimer
@@ -205,7 +205,7 @@ entered_is_pinned : (s : List LaneState) (lane seat slot : ℕ) (w : Word) → i
 entered_is_pinned s lane seat slot w allowed loaded round =
     let e : Event = Enter lane seat slot in
     let p : Placed s e = placed s e allowed in
-    let pins : Pins (after (lane_at s lane) e) slot seat w = pins-after (lane_at s lane) slot seat w (ltb-true _ _ p.slot) loaded (and_last _ _ p.row) round lane in
+    let pins : Pins (after (lane_at s lane) e) slot seat w = pins-after (lane_at s lane) slot seat w (ltb-true _ _ p.slot) loaded ((and_parts _ _ p.row).1) round lane in
     let there : Pins (lane_at (happens s e) lane) slot seat w =
     subst (λ t. Pins (lane_at t lane) slot seat w) (sym (ap (λ b. cond b (change s e) s) allowed))
     (at_lane (λ l. Pins l slot seat w) s e lane p.lane (λ _. pins) (λ ne. absurd (ne refl))) in
@@ -228,16 +228,16 @@ loaded_is_pinned lanes seats s lane seat k lane_exists seat_exists fresh =
     let slot = l.word.slot in
     let within : lane < length s = omega (arith, k.count) in
     let h : LaneKept seats l = k.each lane within in
-    let allowed : is_allowed s e ≡ true = and_true _ _ (and_true _ _ (and_true _ _ (lt-ltb lane (length s) within) (lt-ltb seat (length l.loaded) (omega (arith, h.seats_known)))) refl) refl in
+    let allowed : is_allowed s e ≡ true = and_from _ _ (and_from _ _ (and_from _ _ (lt-ltb lane (length s) within) (lt-ltb seat (length l.loaded) (omega (arith, h.seats_known)))) refl) refl in
     let t = change s e in
     let now : lane_at t lane ≡ after l e = get_or-set_same s lane (after l e) no_lane within in
     let loads : loaded_by (lane_at t lane) seat ≡ Some l.word = ap (λ x. loaded_by x seat) now ∙ get_or-set_same l.loaded seat (Some l.word) None (omega (arith, h.seats_known)) in
     let is_in : slot < length l.slots = filled_within l.slots slot l.word.round h.filled in
     let enters : is_allowed t (Enter lane seat slot) ≡ true =
-    and_true _ _
-    (and_true _ _ (and_true _ _ (lt-ltb lane (length t) (omega (arith, length-set s lane (after l e)))) (ap (λ x. nat_lt seat (length x.loaded)) now ∙ lt-ltb seat _ (omega (arith, h.seats_known, length-set l.loaded seat (Some l.word)))))
+    and_from _ _
+    (and_from _ _ (and_from _ _ (lt-ltb lane (length t) (omega (arith, length-set s lane (after l e)))) (ap (λ x. nat_lt seat (length x.loaded)) now ∙ lt-ltb seat _ (omega (arith, h.seats_known, length-set l.loaded seat (Some l.word)))))
     (ap (λ x. nat_lt slot (length x.slots)) now ∙ lt-ltb slot (length l.slots) is_in))
-    (and_true _ _ (and_true _ _ (ap not (list_any-set_same (reads_in seat) s lane (after l e) no_lane within refl ∙ fresh)) (ap (λ o. names_slot o slot) loads ∙ eq-eqb slot slot refl))
+    (and_from _ _ (and_from _ _ (ap not (list_any-set_same (reads_in seat) s lane (after l e) no_lane within refl ∙ fresh)) (ap (λ o. names_slot o slot) loads ∙ eq-eqb slot slot refl))
     (ap (λ x. is_filled (slot_at x slot)) now ∙ filled-round_of _ _ h.filled)) in
     subst (λ u. HasPinned (happens u (Enter lane seat slot)) lane seat l.word.round) (sym (ap (λ b. cond b t s) allowed))
     (entered_is_pinned t lane seat slot l.word enters loads (ap (λ x. round_of (slot_at x slot)) now ∙ round_of-filled _ _ h.filled))
