@@ -6,7 +6,7 @@ ghost use Rattle.strided.specs.Interval.{IsCanonical};
 ghost use Rattle.si_bits.specs.Operations.{and, or, xor, masked, ceiling, aligned, under_mask, within_bits};
 ghost use Rattle.si_bits.specs.Concrete.{and_of};
 
-use crate::shape::{is_natural, is_single, spaced, up_to};
+use crate::shape::{is_natural, is_single, up_to};
 use crate::wide::{minus, natural, power};
 use strided::Si;
 
@@ -26,7 +26,7 @@ pub(crate) fn conjunction(a: &Si, b: &Si) -> Si
     } else if is_left_single {
         under_mask(b, a.lo())
     } else if is_natural(a) && is_natural(b) {
-        spaced(1, 0, least(a.hi(), b.hi()))
+        Si::spaced(1, 0, least(a.hi(), b.hi()))
     } else {
         Si::full()
     }
@@ -86,7 +86,7 @@ fn masked(a: &Si, mask: u32) -> Si
         return Si::one(0);
     }
     let top = ceiling(a, mask);
-    spaced(lowest_bit(mask), 0, top)
+    Si::spaced(lowest_bit(mask), 0, top)
 }
 
 /// What no member passes under a mask that is not negative.
@@ -117,7 +117,7 @@ fn aligned(a: &Si, unit: u32) -> Si
     let stride = coarser(a.stride(), unit);
     let low = common(a.lo(), mask);
     let high = common(a.hi(), mask);
-    spaced(stride, low, high)
+    Si::spaced(stride, low, high)
 }
 
 /// The stride where it is a multiple of `unit`, and else `unit`.

@@ -6,7 +6,7 @@ ghost use Rattle.strided.specs.Operations.{spaced};
 ghost use Rattle.si_bits.specs.Operations.{low, sign_extend};
 ghost use Rattle.si_bits.specs.Concrete.{extended_word};
 
-use crate::shape::{is_natural, is_single, spaced, up_to};
+use crate::shape::{is_natural, is_single, up_to};
 use crate::wide::{is_at_least, is_below, less, minus, natural, power};
 use strided::Si;
 
@@ -43,7 +43,7 @@ pub(crate) fn sign_extend(a: &Si, bits: u32) -> Si
     } else if is_at_least(a.lo(), half) {
         lowered(a, power(bits))
     } else {
-        spaced(1, minus(half), natural(half - 1))
+        Si::spaced(1, minus(half), natural(half - 1))
     }
 }
 
@@ -55,7 +55,7 @@ fn lowered(a: &Si, by: u32) -> Si
 {
     let low = less(a.lo(), by);
     let high = less(a.hi(), by);
-    spaced(a.stride(), low, high)
+    Si::spaced(a.stride(), low, high)
 }
 
 /// The low `bits` bits, with copies of the highest of them above.

@@ -5,7 +5,7 @@ ghost use Rattle.strided.specs.Interval.{least, greatest, IsCanonical};
 ghost use Rattle.strided.specs.Operations.{spaced};
 ghost use Rattle.si_bits.specs.Operations.{bounded, up_to, is_single, is_natural};
 
-use crate::wide::{Ends, above, are_words, gap, narrow, turns};
+use crate::wide::{Ends, are_words, narrow};
 use strided::Si;
 
 /// Whether there is one member alone.
@@ -23,26 +23,14 @@ pub(crate) fn is_natural(a: &Si) -> bool
     0 <= a.lo()
 }
 
-/// The interval from `lo` to `hi`, the upper end lowered to the last member.
-pub(crate) fn spaced(stride: u32, lo: i32, hi: i32) -> Si
-    requires { lo ≤ℤ hi }
-    ensures { result ≡ spaced stride lo hi }
-{
-    let turns = turns(gap(lo, hi), stride);
-    if turns == 0 {
-        return Si::one(lo);
-    }
-    Si::new(stride, lo, above(lo, turns * stride)).unwrap()
-}
-
-/// The same of ends that may be no signed words: every number then.
+/// The interval from the lower end to the upper one, lowered to the last member; every number where an end is no signed word.
 pub(crate) fn bounded(stride: u64, ends: Ends) -> Si
     requires ordered { ends.lo ≤ℤ ends.hi }
     requires narrow { least ≤ℤ ends.lo → ends.hi ≤ℤ greatest → stride < 2 ^ 32 }
     ensures { result ≡ bounded stride ends.lo ends.hi }
 {
     if are_words(ends) {
-        spaced(stride as u32, narrow(ends.lo), narrow(ends.hi))
+        Si::spaced(stride as u32, narrow(ends.lo), narrow(ends.hi))
     } else {
         Si::full()
     }
@@ -53,5 +41,5 @@ pub(crate) fn up_to(hi: u32) -> Si
     requires { hi < 2 ^ 31 }
     ensures { result ≡ up_to hi }
 {
-    spaced(1, 0, hi as i32)
+    Si::spaced(1, 0, hi as i32)
 }

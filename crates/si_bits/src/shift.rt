@@ -5,7 +5,7 @@ ghost use Rattle.std.specs.Int.{int_shr};
 ghost use Rattle.strided.specs.Interval.{IsCanonical};
 ghost use Rattle.si_bits.specs.Operations.{shr, sar, shifted, shifted_stride};
 
-use crate::shape::{is_natural, is_single, spaced, up_to};
+use crate::shape::{is_natural, is_single, up_to};
 use strided::Si;
 
 /// The members shifted by `count` bits, with zeros from above.
@@ -48,7 +48,7 @@ fn shifted(a: &Si, count: u32) -> Si
     let stride = shifted_stride(a, count);
     let low = moved(a.lo(), count);
     let high = moved(a.hi(), count);
-    spaced(stride, low, high)
+    Si::spaced(stride, low, high)
 }
 
 /// How far the shifted members are apart.

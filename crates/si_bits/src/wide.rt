@@ -7,22 +7,6 @@ ghost use Rattle.strided.specs.Interval.{least as least_word, greatest as greate
 
 use strided::Si;
 
-/// How far `hi` lies above `lo`.
-pub(crate) fn gap(lo: i32, hi: i32) -> u32
-    requires { lo ≤ℤ hi }
-    ensures { hi ≡ lo +ℤ pos result }
-{
-    (i64::from(hi) - i64::from(lo)) as u32
-}
-
-/// `lo` and `rise` more.
-pub(crate) fn above(lo: i32, rise: u32) -> i32
-    requires { (lo +ℤ pos rise) ≤ℤ greatest_word }
-    ensures { result ≡ lo +ℤ pos rise }
-{
-    (i64::from(lo) + i64::from(rise)) as i32
-}
-
 /// Two ends.
 #[derive(Clone, Copy)]
 pub(crate) struct Ends {
@@ -89,13 +73,6 @@ pub(crate) fn narrow(number: i64) -> i32
     ensures { result ≡ number }
 {
     number as i32
-}
-
-/// How many strides fit into `rise`.
-pub(crate) fn turns(rise: u32, stride: u32) -> u32
-    ensures { result ≡ rise / stride }
-{
-    if stride == 0 { 0 } else { rise / stride }
 }
 
 /// The power of 2.

@@ -1,6 +1,7 @@
-pub mod Members
-pub mod Gcd
-pub mod Spaced
-pub mod SumLaws
-pub mod JoinLaws
-pub mod BoundLaws
+pub mod MemberLemmas
+pub mod GcdLemmas
+pub mod SpacedLemmas
+pub mod SumLemmas
+pub mod JoinLemmas
+pub mod BoundLemmas
+pub mod NumberLemmas

@@ -3,3 +3,4 @@ pub mod Interval
 pub mod Concrete
 pub mod Operations
 pub mod Rows
+pub mod Order

@@ -89,3 +89,7 @@ below a b = has b a.lo && has b a.hi && (a.stride % b.stride == 0)
 -- how many members a has
 unfoldable pub count : Interval → ℕ
 count a = int_gap a.lo a.hi / a.stride + 1
+
+-- the member, where there is one alone
+unfoldable pub only : Interval → Option ℤ
+only a = if a.stride == 0 then Some a.lo else None

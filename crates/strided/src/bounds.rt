@@ -5,7 +5,7 @@ ghost use Rattle.strided.specs.Interval.{IsBelow, IsClipped, IsMember};
 ghost use Rattle.strided.specs.Operations.{clip, meet, below, first_from as first_word};
 
 use crate::arithmetic::{divides, next_multiple, rise};
-use crate::interval::{Si, spaced};
+use crate::interval::Si;
 
 impl Si {
     /// The members from `lo` up to `hi`, or `None` exactly where there is none.
@@ -16,7 +16,7 @@ impl Si {
         let first = first_from(self, lo);
         let last = self.hi().min(hi);
         if first <= i64::from(last) {
-            Some(spaced(self.stride(), first as i32, last))
+            Some(Si::spaced(self.stride(), first as i32, last))
         } else {
             None
         }

@@ -13,7 +13,7 @@ ghost use Rattle.strided.specs.Operations.{
 ghost use Rattle.strided.specs.Rows.{HasJoinedEnds, HasWidenedEnds};
 
 use crate::arithmetic::{gap, gcd, raised, remainder};
-use crate::interval::{Si, spaced};
+use crate::interval::Si;
 
 impl Si {
     /// The members of both, in one interval.
@@ -24,7 +24,7 @@ impl Si {
         ensures holds_other { IsBelow other.now result }
     {
         let lo = self.lo().min(other.lo());
-        spaced(joint_stride(self, other), lo, self.hi().max(other.hi()))
+        Si::spaced(joint_stride(self, other), lo, self.hi().max(other.hi()))
     }
 
     /// The members of both, where an end that `other` passes goes as far as the numbers do.
@@ -35,7 +35,7 @@ impl Si {
         ensures holds_other { IsBelow other.now result }
     {
         let stride = joint_stride(self, other);
-        spaced(
+        Si::spaced(
             stride,
             widened_lo(stride, self, other),
             widened_hi(self, other),

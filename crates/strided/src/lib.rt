@@ -8,9 +8,11 @@ mod arithmetic;
 mod bounds;
 mod interval;
 mod joins;
+mod laws;
 mod sums;
 
 pub use interval::Si;
+pub use laws::interval_order;
 
 #[cfg(test)]
 mod tests;

@@ -8,7 +8,7 @@ ghost use Rattle.strided.specs.Operations.{wrap, add, sub, neg};
 ghost use Rattle.strided.specs.Rows.{IsWrapped};
 
 use crate::arithmetic::{difference, gcd, signed, sum};
-use crate::interval::{Si, spaced};
+use crate::interval::Si;
 
 impl Si {
     /// The sums of members.
@@ -61,7 +61,7 @@ fn wrapped(stride: u32, lo: i64, hi: i64) -> Si
     let start = signed(lo);
     let end = i64::from(start) + (hi - lo);
     if end <= i64::from(i32::MAX) {
-        spaced(stride, start, end as i32)
+        Si::spaced(stride, start, end as i32)
     } else {
         Si::full()
     }

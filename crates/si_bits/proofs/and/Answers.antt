@@ -1,4 +1,4 @@
-use Rattle.si_bits.proofs.Masks.{member-and}
+use Rattle.si_bits.proofs.MaskLemmas.{member-and}
 use Rattle.si_bits.proofs.and.Goals as goal
 
 pub returns-clause-sound : goal.returns-clause-sound

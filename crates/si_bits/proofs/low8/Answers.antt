@@ -1,5 +1,5 @@
 use Rattle.std.proofs.Common.{lit<}
-use Rattle.si_bits.proofs.Parts.{member-low}
+use Rattle.si_bits.proofs.PartLemmas.{member-low}
 use Rattle.si_bits.proofs.low8.Goals as goal
 
 pub returns-clause-sound : goal.returns-clause-sound

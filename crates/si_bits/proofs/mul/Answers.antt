@@ -1,4 +1,4 @@
-use Rattle.si_bits.proofs.Multiples.{member-mul}
+use Rattle.si_bits.proofs.MultipleLemmas.{member-mul}
 use Rattle.si_bits.proofs.mul.Goals as goal
 
 pub returns-clause-sound : goal.returns-clause-sound

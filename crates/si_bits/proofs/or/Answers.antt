@@ -1,4 +1,4 @@
-use Rattle.si_bits.proofs.Masks.{member-or}
+use Rattle.si_bits.proofs.MaskLemmas.{member-or}
 use Rattle.si_bits.proofs.or.Goals as goal
 
 pub returns-clause-sound : goal.returns-clause-sound

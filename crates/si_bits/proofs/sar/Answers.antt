@@ -1,4 +1,4 @@
-use Rattle.si_bits.proofs.Shifts.{member-sar}
+use Rattle.si_bits.proofs.ShiftLemmas.{member-sar}
 use Rattle.si_bits.proofs.sar.Goals as goal
 
 pub returns-clause-sound : goal.returns-clause-sound

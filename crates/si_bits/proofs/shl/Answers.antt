@@ -1,4 +1,4 @@
-use Rattle.si_bits.proofs.Multiples.{member-shl}
+use Rattle.si_bits.proofs.MultipleLemmas.{member-shl}
 use Rattle.si_bits.proofs.shl.Goals as goal
 
 pub returns-clause-sound : goal.returns-clause-sound

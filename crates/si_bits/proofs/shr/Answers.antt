@@ -1,4 +1,4 @@
-use Rattle.si_bits.proofs.Shifts.{member-shr}
+use Rattle.si_bits.proofs.ShiftLemmas.{member-shr}
 use Rattle.si_bits.proofs.shr.Goals as goal
 
 pub returns-clause-sound : goal.returns-clause-sound

@@ -1,6 +1,6 @@
 -- Both widths are between 0 and 32.
 use Rattle.std.proofs.Common.{◌<◌, arith}
-use Rattle.si_bits.proofs.Parts.{member-sign_extend}
+use Rattle.si_bits.proofs.PartLemmas.{member-sign_extend}
 use Rattle.si_bits.proofs.sign_extend.Goals as goal
 
 pub returns-clause-sound : goal.returns-clause-sound

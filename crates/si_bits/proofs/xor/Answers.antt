@@ -1,4 +1,4 @@
-use Rattle.si_bits.proofs.Masks.{member-xor}
+use Rattle.si_bits.proofs.MaskLemmas.{member-xor}
 use Rattle.si_bits.proofs.xor.Goals as goal
 
 pub returns-clause-sound : goal.returns-clause-sound

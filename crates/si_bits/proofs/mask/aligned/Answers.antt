@@ -1,11 +1,12 @@
 -- The ends are those of the formula, in their order.
 use Rattle.std.proofs.Common.{◌∙◌, ap₂, refl, sym}
-use Rattle.strided.proofs.Members.{canonical_order}
+use Rattle.strided.proofs.MemberLemmas.{canonical_order}
 use Rattle.si_bits.specs.Concrete.{and_of}
-use Rattle.si_bits.proofs.Masks.{and_of-aligned_le}
-use Rattle.si_bits.proofs.Members.{member_fits, lower_end}
-use Rattle.si_bits.proofs.Shapes.{aligned-power}
-use Rattle.si_bits.proofs.Signs.{plain_32}
+use Rattle.si_bits.proofs.MaskLemmas.{and_of-aligned_le}
+use Rattle.si_bits.proofs.MemberLemmas.{member_fits}
+use Rattle.strided.proofs.BoundLemmas.{member_lo}
+use Rattle.si_bits.proofs.ShapeLemmas.{aligned-power}
+use Rattle.si_bits.proofs.SignLemmas.{plain_32}
 use Rattle.si_bits.proofs.mask.aligned.Goals as goal
 
 pub spaced-requires : goal.spaced-requires
@@ -16,7 +17,7 @@ spaced-requires c =
     let canonical = c.lo.ensures.canonical in
     rw (low, high)
     (and_of-aligned_le c.args.a.now.lo c.args.a.now.hi c.args.unit c.requires.positive c.requires.narrow (sym c.lowest_bit.ensures ∙ c.if-lowest_bit-unit.false)
-    (member_fits c.args.a.now.lo c.args.a.now canonical (lower_end c.args.a.now canonical)) (member_fits c.args.a.now.hi c.args.a.now canonical canonical.last) (canonical_order c.args.a.now canonical))
+    (member_fits c.args.a.now.lo c.args.a.now canonical (member_lo c.args.a.now canonical)) (member_fits c.args.a.now.hi c.args.a.now canonical canonical.last) (canonical_order c.args.a.now canonical))
 
 pub returns : goal.returns
 returns c =

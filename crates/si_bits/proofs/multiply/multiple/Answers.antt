@@ -3,7 +3,7 @@ use Rattle.std.proofs.Common.{refl}
 use Rattle.std.proofs.lemmas.Int.{to_z-of_z}
 use Rattle.std.specs.Int.{w64}
 use Rattle.si_bits.specs.Operations.{multiple}
-use Rattle.si_bits.proofs.Multiples.{multiple_narrow}
+use Rattle.si_bits.proofs.MultipleLemmas.{multiple_narrow}
 use Rattle.si_bits.proofs.multiply.multiple.Goals as goal
 
 pub bounded-requires-clause-narrow : goal.bounded-requires-clause-narrow

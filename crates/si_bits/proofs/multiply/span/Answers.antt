@@ -2,7 +2,7 @@
 use Rattle.std.proofs.Common.{◌∙◌, arith, refl}
 use Rattle.std.proofs.lemmas.Int.{ints, clamps}
 use Rattle.si_bits.specs.Operations.{span}
-use Rattle.si_bits.proofs.Signs.{plain_32, plain_64}
+use Rattle.si_bits.proofs.SignLemmas.{plain_32, plain_64}
 use Rattle.si_bits.proofs.multiply.span.Goals as goal
 
 pub bounded-requires-clause-ordered : goal.bounded-requires-clause-ordered

@@ -4,8 +4,8 @@ use Rattle.std.proofs.lemmas.Int.{to_z-of_z}
 use Rattle.std.specs.Prelude.{FitsSigned}
 use Rattle.std.specs.Int.{w64}
 use Rattle.strided.specs.Operations.{spaced}
-use Rattle.si_bits.proofs.Shapes.{bounded-words, bounded-full}
-use Rattle.si_bits.proofs.Signs.{plain_32}
+use Rattle.si_bits.proofs.ShapeLemmas.{bounded-words, bounded-full}
+use Rattle.si_bits.proofs.SignLemmas.{plain_32}
 use Rattle.si_bits.proofs.shape.bounded.Goals as goal
 
 pub returns-then-are_words : goal.returns-then-are_words

@@ -3,10 +3,10 @@ use Rattle.std.proofs.Common.{◌∙◌, ap, refl, ◌^◌}
 use Rattle.std.proofs.lemmas.Nat.{pow_pos}
 use Rattle.std.specs.Prelude.{ℤ}
 use Rattle.std.specs.Int.{int_shr}
-use Rattle.strided.proofs.Members.{canonical_order}
+use Rattle.strided.proofs.MemberLemmas.{canonical_order}
 use Rattle.si_bits.specs.Operations.{shifted}
-use Rattle.si_bits.proofs.Floors.{shr-le}
-use Rattle.si_bits.proofs.Signs.{plain_32}
+use Rattle.si_bits.proofs.FloorLemmas.{shr-le}
+use Rattle.si_bits.proofs.SignLemmas.{plain_32}
 use Rattle.si_bits.proofs.shift.shifted.Goals as goal
 
 pub spaced-requires : goal.spaced-requires

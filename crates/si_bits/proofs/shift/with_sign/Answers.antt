@@ -3,8 +3,8 @@ use Rattle.std.proofs.Common.{◌∙◌, ap, sym}
 use Rattle.std.specs.Prelude.{ℤ}
 use Rattle.std.specs.Int.{int_shr}
 use Rattle.strided.specs.Interval.{one}
-use Rattle.si_bits.proofs.Shapes.{sar-single}
-use Rattle.si_bits.proofs.Signs.{plain_32}
+use Rattle.si_bits.proofs.ShapeLemmas.{sar-single}
+use Rattle.si_bits.proofs.SignLemmas.{plain_32}
 use Rattle.si_bits.proofs.shift.with_sign.Goals as goal
 
 pub returns-then-is_single-clause-value : goal.returns-then-is_single-clause-value

@@ -1,6 +1,6 @@
 -- Ones that are shifted to the right.
 use Rattle.std.proofs.Common.{◌∙◌, sym}
-use Rattle.si_bits.proofs.Shapes.{ones_right-natural, shr-wide}
+use Rattle.si_bits.proofs.ShapeLemmas.{ones_right-natural, shr-wide}
 use Rattle.si_bits.proofs.shift.with_zeros.Goals as goal
 
 pub up_to-requires : goal.up_to-requires

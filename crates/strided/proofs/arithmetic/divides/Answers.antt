@@ -1,5 +1,5 @@
 -- A number is a multiple exactly where the remainder is 0.
-use Rattle.strided.proofs.Members.{divides_tells}
+use Rattle.strided.proofs.MemberLemmas.{divides_tells}
 use Rattle.strided.proofs.arithmetic.divides.Goals as goal
 
 pub returns-clause-multiple : goal.returns-clause-multiple

@@ -1,7 +1,7 @@
 -- Euclid's step keeps the greatest common divisor, and at 0 the other number is it.
 use Rattle.std.proofs.Common.{ℕ, sym, subst, ◌∙◌, arith}
 use Rattle.std.specs.Int.{IsGcd}
-use Rattle.strided.proofs.Gcd.{IsGcd-gcd, gcd_step, gcd-zero}
+use Rattle.strided.proofs.GcdLemmas.{IsGcd-gcd, gcd_step, gcd-zero}
 use Rattle.strided.proofs.arithmetic.gcd.Goals as goal
 
 pub loop-rest-preserved : goal.loop-rest-preserved

@@ -3,8 +3,8 @@ use Rattle.std.proofs.Common.{◌≡◌, arith}
 use Rattle.std.specs.Int.{int_gap, next_multiple_of, cast_signed, cast_unsigned, w32}
 use Rattle.std.proofs.lemmas.Int.{ints}
 use Rattle.strided.specs.Interval.{Interval}
-use Rattle.strided.proofs.Spaced.{same_gap}
-use Rattle.strided.proofs.BoundLaws.{first_is}
+use Rattle.strided.proofs.SpacedLemmas.{same_gap}
+use Rattle.strided.proofs.BoundLemmas.{first_is}
 use Rattle.strided.proofs.bounds.first_from.Goals as goal
 
 pub returns : goal.returns

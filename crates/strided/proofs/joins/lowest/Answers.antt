@@ -4,7 +4,7 @@ use Rattle.std.specs.Int.{int_gap}
 use Rattle.std.proofs.lemmas.Int.{ints}
 use Rattle.strided.specs.Interval.{least}
 use Rattle.strided.specs.Operations.{lowest}
-use Rattle.strided.proofs.Spaced.{gap_from}
+use Rattle.strided.proofs.SpacedLemmas.{gap_from}
 use Rattle.strided.proofs.joins.lowest.Goals as goal
 
 pub returns : goal.returns

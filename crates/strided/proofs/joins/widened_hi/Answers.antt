@@ -1,7 +1,7 @@
 -- The old end where the new one isn't greater, and else the greatest word.
 use Rattle.std.proofs.Common.{arith}
 use Rattle.std.proofs.lemmas.Int.{ints}
-use Rattle.strided.proofs.JoinLaws.{hi_kept, hi_moved}
+use Rattle.strided.proofs.JoinLemmas.{hi_kept, hi_moved}
 use Rattle.strided.proofs.joins.widened_hi.Goals as goal
 
 pub returns-then-hi : goal.returns-then-hi

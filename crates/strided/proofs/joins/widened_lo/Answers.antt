@@ -3,7 +3,7 @@ use Rattle.std.proofs.Common.{◌≡◌, refl, arith}
 use Rattle.std.proofs.lemmas.Int.{ints}
 use Rattle.strided.specs.Interval.{Interval}
 use Rattle.strided.specs.Operations.{lowest}
-use Rattle.strided.proofs.JoinLaws.{lo_kept, lo_moved, same_lowest}
+use Rattle.strided.proofs.JoinLemmas.{lo_kept, lo_moved, same_lowest}
 use Rattle.strided.proofs.joins.widened_lo.Goals as goal
 
 pub returns-then-lo : goal.returns-then-lo

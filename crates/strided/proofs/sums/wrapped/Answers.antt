@@ -3,7 +3,7 @@ use Rattle.std.proofs.Common.{◌≡◌, ◌+ℤ◌, refl, arith}
 use Rattle.std.specs.Prelude.{◌-ℤ◌}
 use Rattle.std.proofs.lemmas.Int.{ints}
 use Rattle.strided.specs.Concrete.{signed}
-use Rattle.strided.proofs.SumLaws.{wrap_of_spaced, wrap_of_full, same_signed}
+use Rattle.strided.proofs.SumLemmas.{wrap_of_spaced, wrap_of_full, same_signed}
 use Rattle.strided.proofs.sums.wrapped.Goals as goal
 
 pub returns-then-end-from : goal.returns-then-end-from

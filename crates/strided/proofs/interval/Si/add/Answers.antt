@@ -6,7 +6,7 @@ use Rattle.strided.specs.Gcd.{gcd}
 use Rattle.strided.specs.Interval.{Interval, IsMember}
 use Rattle.strided.specs.Operations.{add}
 use Rattle.strided.specs.Rows.{IsWrapped}
-use Rattle.strided.proofs.SumLaws.{same_wrap, member_add, add_wrapped}
+use Rattle.strided.proofs.SumLemmas.{same_wrap, member_add, add_wrapped}
 use Rattle.strided.proofs.interval.Si.add.Goals as goal
 
 pub wrapped-requires-clause-near : goal.wrapped-requires-clause-near

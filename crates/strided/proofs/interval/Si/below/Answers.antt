@@ -2,7 +2,7 @@
 use Rattle.std.proofs.Common.{◌≡◌, arith}
 use Rattle.std.proofs.lemmas.Int.{ints}
 use Rattle.strided.specs.Interval.{Interval}
-use Rattle.strided.proofs.BoundLaws.{below_no_lo, below_no_hi, below_rest, below_tells, same_has}
+use Rattle.strided.proofs.BoundLemmas.{below_no_lo, below_no_hi, below_rest, below_tells, same_has}
 use Rattle.strided.proofs.interval.Si.below.Goals as goal
 
 pub returns-then-not-has-clause-value : goal.returns-then-not-has-clause-value

@@ -5,7 +5,7 @@ use Rattle.std.specs.Int.{int_min}
 use Rattle.std.proofs.lemmas.Int.{ints, clamps}
 use Rattle.strided.specs.Interval.{Interval}
 use Rattle.strided.specs.Operations.{first_from}
-use Rattle.strided.proofs.BoundLaws.{clip_of_some, clip_of_none, clip_tells, first_above, same_first}
+use Rattle.strided.proofs.BoundLemmas.{clip_of_some, clip_of_none, clip_tells, first_above, same_first}
 use Rattle.strided.proofs.interval.Si.clip.Goals as goal
 
 pub overflow_cast-first : goal.overflow_cast-first

@@ -4,8 +4,8 @@ use Rattle.std.specs.Int.{int_gap}
 use Rattle.std.proofs.lemmas.Int.{ints}
 use Rattle.strided.specs.Interval.{Interval, HasMembers}
 use Rattle.strided.specs.Operations.{count}
-use Rattle.strided.proofs.Spaced.{gap_from}
-use Rattle.strided.proofs.BoundLaws.{count_exact}
+use Rattle.strided.proofs.SpacedLemmas.{gap_from}
+use Rattle.strided.proofs.BoundLemmas.{count_exact}
 use Rattle.strided.proofs.interval.Si.count.Goals as goal
 
 pub returns-clause-value : goal.returns-clause-value

@@ -1,5 +1,5 @@
 -- All signed words are a canonical interval.
-use Rattle.strided.proofs.Members.{full_canonical}
+use Rattle.strided.proofs.MemberLemmas.{full_canonical}
 use Rattle.strided.proofs.interval.Si.full.Goals as goal
 
 pub made-requires : goal.made-requires

@@ -4,8 +4,8 @@ use Rattle.std.specs.Prelude.{IsTrue}
 use Rattle.std.proofs.lemmas.Int.{ints}
 use Rattle.strided.specs.Interval.{Interval, interval, IsMember}
 use Rattle.strided.specs.Operations.{has}
-use Rattle.strided.proofs.Members.{member_iff}
-use Rattle.strided.proofs.BoundLaws.{has_tells, has_under, has_over}
+use Rattle.strided.proofs.MemberLemmas.{member_iff}
+use Rattle.strided.proofs.BoundLemmas.{has_tells, has_under, has_over}
 use Rattle.strided.proofs.interval.Si.has.Goals as goal
 
 pub returns-clause-exact : goal.returns-clause-exact

@@ -5,10 +5,10 @@ use Rattle.std.specs.Int.{int_min, int_max}
 use Rattle.std.proofs.lemmas.Int.{ints, clamps}
 use Rattle.strided.specs.Interval.{Interval, IsBelow}
 use Rattle.strided.specs.Operations.{join, joint_stride}
-use Rattle.strided.proofs.Members.{canonical_order}
-use Rattle.strided.proofs.Spaced.{same_spaced}
+use Rattle.strided.proofs.MemberLemmas.{canonical_order}
+use Rattle.strided.proofs.SpacedLemmas.{same_spaced}
 use Rattle.strided.specs.Rows.{HasJoinedEnds}
-use Rattle.strided.proofs.JoinLaws.{member_join_left, member_join_right, join_ends}
+use Rattle.strided.proofs.JoinLemmas.{member_join_left, member_join_right, join_ends}
 use Rattle.strided.proofs.interval.Si.join.Goals as goal
 
 pub returns-clause-value : goal.returns-clause-value

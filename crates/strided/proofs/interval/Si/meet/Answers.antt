@@ -4,8 +4,8 @@ use Rattle.std.specs.Prelude.{◌≤ℤ◌}
 use Rattle.std.proofs.lemmas.Int.{ints}
 use Rattle.strided.specs.Interval.{Interval}
 use Rattle.strided.specs.Operations.{has}
-use Rattle.strided.proofs.Members.{member_above}
-use Rattle.strided.proofs.BoundLaws.{meet_of_one, meet_of_many, then_some_is, clipped_keeps, same_clip, same_has}
+use Rattle.strided.proofs.MemberLemmas.{member_above}
+use Rattle.strided.proofs.BoundLemmas.{meet_of_one, meet_of_many, then_some_is, clipped_keeps, same_clip, same_has}
 use Rattle.strided.proofs.interval.Si.meet.Goals as goal
 
 pub returns-then-stride-eq0-clause-value : goal.returns-then-stride-eq0-clause-value

@@ -2,7 +2,7 @@
 use Rattle.std.proofs.Common.{pos, sym, ap, subst, ◌∙◌}
 use Rattle.strided.specs.Interval.{Interval, IsMember}
 use Rattle.strided.specs.Operations.{neg, sub}
-use Rattle.strided.proofs.SumLaws.{member_one}
+use Rattle.strided.proofs.SumLemmas.{member_one}
 use Rattle.strided.proofs.interval.Si.neg.Goals as goal
 
 pub returns-clause-value : goal.returns-clause-value

@@ -1,7 +1,7 @@
 -- The tests that were passed are the canonical form.
 use Rattle.std.proofs.Common.{arith}
 use Rattle.std.proofs.lemmas.Int.{ints}
-use Rattle.strided.proofs.Members.{canonical_iff}
+use Rattle.strided.proofs.MemberLemmas.{canonical_iff}
 use Rattle.strided.proofs.interval.Si.new.Goals as goal
 
 pub made-requires : goal.made-requires

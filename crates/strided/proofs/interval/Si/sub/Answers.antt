@@ -7,7 +7,7 @@ use Rattle.strided.specs.Gcd.{gcd}
 use Rattle.strided.specs.Interval.{Interval, IsMember}
 use Rattle.strided.specs.Operations.{sub}
 use Rattle.strided.specs.Rows.{IsWrapped}
-use Rattle.strided.proofs.SumLaws.{same_wrap, member_sub, sub_wrapped}
+use Rattle.strided.proofs.SumLemmas.{same_wrap, member_sub, sub_wrapped}
 use Rattle.strided.proofs.interval.Si.sub.Goals as goal
 
 pub wrapped-requires-clause-near : goal.wrapped-requires-clause-near

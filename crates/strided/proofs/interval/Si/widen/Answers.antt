@@ -4,9 +4,9 @@ use Rattle.std.specs.Prelude.{◌≤ℤ◌}
 use Rattle.std.proofs.lemmas.Int.{ints}
 use Rattle.strided.specs.Interval.{Interval, IsBelow}
 use Rattle.strided.specs.Operations.{widen, joint_stride, widened_lo, widened_hi}
-use Rattle.strided.proofs.Spaced.{same_spaced}
+use Rattle.strided.proofs.SpacedLemmas.{same_spaced}
 use Rattle.strided.specs.Rows.{HasWidenedEnds}
-use Rattle.strided.proofs.JoinLaws.{member_widen_old, member_widen_new, widened_order, widen_ends}
+use Rattle.strided.proofs.JoinLemmas.{member_widen_old, member_widen_new, widened_order, widen_ends}
 use Rattle.strided.proofs.interval.Si.widen.Goals as goal
 
 pub spaced-requires : goal.spaced-requires

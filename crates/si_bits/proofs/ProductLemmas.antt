@@ -4,7 +4,7 @@ use Rattle.std.proofs.lemmas.Int.{ints, clamps}
 use Rattle.std.specs.Prelude.{ℤ, pos, negsuc, ◌≤ℤ◌, ◌+ℤ◌, ◌*ℤ◌}
 use Rattle.std.proofs.Math.IntN.{*ℤ_comm}
 use Rattle.std.specs.Int.{int_min, int_max}
-use Rattle.si_bits.proofs.Floors.{distance, mul_moved}
+use Rattle.si_bits.proofs.FloorLemmas.{distance, mul_moved}
 use borrow.Author.Differences.{up, down}
 
 -- z lies between p and q, whichever is less

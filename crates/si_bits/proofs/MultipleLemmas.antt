@@ -3,17 +3,18 @@ use Rattle.std.proofs.Common.{◌≡◌, ℕ, zero, suc, ◌*◌, ◌^◌, ◌<�
 use Rattle.std.proofs.lemmas.Int.{ints, clamps, wrapping_mul_is, wrapping_mul-bits, int_wrap-mul_right}
 use Rattle.std.proofs.lemmas.Nat.{pow_below}
 use Rattle.std.proofs.Math.IntN.{*ℤ_comm}
-use Rattle.si_bits.proofs.Signs.{word-lt, number-word}
+use Rattle.si_bits.proofs.SignLemmas.{word-lt, number-word}
 use Rattle.std.proofs.lemmas.Bool.{cond_both, eqb-true}
 use Rattle.std.specs.Prelude.{ℤ, pos, negsuc, ◌≤ℤ◌, ◌*ℤ◌, unsigned_abs, FitsSigned}
 use Rattle.std.specs.Int.{int_min, int_max, int_wrap, w32}
 use Rattle.strided.specs.Interval.{Interval, IsMember, IsCanonical, least, greatest}
 use Rattle.si_bits.specs.Concrete.{word, number, product_of, shl_of}
 use Rattle.si_bits.specs.Operations.{least_product, greatest_product, multiple, span, mul, shl, is_single}
-use Rattle.si_bits.proofs.Floors.{mul_moved}
-use Rattle.si_bits.proofs.Products.{mul_moved_negsuc, mul_pos-le, mul_negsuc-le, products_between}
-use Rattle.strided.proofs.Members.{member_above}
-use Rattle.si_bits.proofs.Members.{member_single, member_fits, member-one, member-bounded, member-bounded_dense, steps_to_top, both_true}
+use Rattle.si_bits.proofs.FloorLemmas.{mul_moved}
+use Rattle.si_bits.proofs.ProductLemmas.{mul_moved_negsuc, mul_pos-le, mul_negsuc-le, products_between}
+use Rattle.strided.proofs.MemberLemmas.{member_above}
+use Rattle.si_bits.proofs.MemberLemmas.{member_single, member_fits, member-one, member-bounded, member-bounded_dense, steps_to_top}
+use Rattle.std.proofs.lemmas.Bool.{and_parts}
 
 -- one stride fits between the ends, or it is 0
 some_turn : (a : Interval) → (c : IsCanonical a) → c.last.turns ≡ 0 → a.stride ≡ 0
@@ -82,7 +83,7 @@ member-mul a b v w ca cb m n =
     let wide : product_of v w ≡ int_wrap w32 (v *ℤ w) = product_of-is v w (member_fits v a ca m) (member_fits w b cb n) in
     cond_both (is_single a && is_single b) _ _ (IsMember (product_of v w))
     (λ yes.
-    let s = both_true (is_single a) (is_single b) yes in
+    let s = and_parts (is_single a) (is_single b) yes in
     member-one (product_of v w) (product_of a.lo b.lo)
     (ap₂ product_of (member_single v a (eqb-true a.stride 0 s.0) m) (member_single w b (eqb-true b.stride 0 s.1) n)))
     (λ _. cond_both (is_single b) _ _ (IsMember (product_of v w))

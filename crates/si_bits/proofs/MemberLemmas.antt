@@ -1,22 +1,19 @@
 -- Members of the shapes that results have.
-use Rattle.std.proofs.Common.{◌≡◌, ℕ, ◌+◌, ◌-◌, ◌*◌, ◌^◌, ◌<◌, ◌≤◌, arith, refl, ap, Bool, true, false, ◌&&◌, ⊎_elim, ◌⊎◌, inl, inr}
+use Rattle.std.proofs.Common.{◌≡◌, ℕ, ◌+◌, ◌-◌, ◌*◌, ◌^◌, ◌<◌, ◌≤◌, arith, ap, ◌&&◌, ⊎_elim, ◌⊎◌, inl, inr}
 use Rattle.std.proofs.lemmas.Int.{ints, int_wrap_fits, SFits-int_wrap}
-use Rattle.std.proofs.lemmas.Bool.{cond_both, cases_lt}
+use Rattle.std.proofs.lemmas.Bool.{cond_both, cases_lt, and_parts}
 use Rattle.std.proofs.Math.Nat.{mul-le-mul_right}
 use Rattle.std.specs.Prelude.{ℤ, pos, ◌≤ℤ◌, ◌+ℤ◌, FitsSigned, int_le}
 use Rattle.std.specs.Int.{int_wrap, w32}
 use Rattle.strided.specs.Interval.{Interval, IsMember, IsCanonical, full, one, least, greatest}
 use Rattle.strided.specs.Operations.{spaced}
-use Rattle.strided.proofs.Members.{member_above}
-use Rattle.strided.proofs.Spaced.{member_spaced}
+use Rattle.strided.proofs.MemberLemmas.{member_above}
+use Rattle.strided.proofs.SpacedLemmas.{member_spaced}
+use Rattle.strided.proofs.SumLemmas.{member_full}
 use Rattle.si_bits.specs.Operations.{bounded, up_to}
 use Rattle.si_bits.specs.Concrete.{number}
-use Rattle.si_bits.proofs.Signs.{number-low}
-use Rattle.si_bits.proofs.Floors.{distance}
-
-pub both_true : (a b : Bool) → (a && b) ≡ true → (a ≡ true) × (b ≡ true)
-both_true true b h = (refl, h)
-both_true false b h = cc
+use Rattle.si_bits.proofs.SignLemmas.{number-low}
+use Rattle.si_bits.proofs.FloorLemmas.{distance}
 
 -- where the stride is 0, the lower end is the one member
 pub member_single : (v : ℤ) (a : Interval) → a.stride ≡ 0 → IsMember v a → v ≡ a.lo
@@ -30,11 +27,6 @@ member_fits v a c m =
 
 pub member-one : (v w : ℤ) → v ≡ w → IsMember v (one w)
 member-one v w e = record { turns = 0; reached = omega (arith, ints); in_range = omega (arith, ints) }
-
-pub member-full : (v : ℤ) → FitsSigned w32 v → IsMember v full
-member-full v f =
-    let d = distance least v (omega (arith, ints)) in
-    let e = d.1 in record { turns = d.0; reached = omega (arith, ints); in_range = omega (arith, ints) }
 
 -- so many strides above the lower end, and not above the upper one
 pub member-spaced : (s : ℕ) (lo hi v : ℤ) (k : ℕ) → v ≡ (lo +ℤ pos (k * s)) → v ≤ℤ hi → IsMember v (spaced s lo hi)
@@ -52,11 +44,11 @@ unfolding bounded
 member-bounded s lo hi v k e h =
     cond_both (int_le least lo && int_le hi greatest) (spaced s lo hi) full (IsMember (int_wrap w32 v))
     (λ yes.
-    let low = (both_true (int_le least lo) (int_le hi greatest) yes).0 in
-    let high = (both_true (int_le least lo) (int_le hi greatest) yes).1 in
+    let low = (and_parts (int_le least lo) (int_le hi greatest) yes).0 in
+    let high = (and_parts (int_le least lo) (int_le hi greatest) yes).1 in
     let fits : FitsSigned w32 v = omega (arith, ints) in
     rw (int_wrap_fits w32 v fits) (member-spaced s lo hi v k e h))
-    (λ _. member-full (int_wrap w32 v) (SFits-int_wrap w32 v))
+    (λ _. member_full (int_wrap w32 v) (SFits-int_wrap w32 v))
 
 pub member-bounded_dense : (lo hi v : ℤ) → lo ≤ℤ v → v ≤ℤ hi → IsMember (int_wrap w32 v) (bounded 1 lo hi)
 member-bounded_dense lo hi v above below =
@@ -82,10 +74,6 @@ steps_to_top a v c m =
     let below = m.in_range in
     let n = steps_between a.stride m.turns c.last.turns (omega (arith, ints)) in
     let e = n.1 in (n.0, omega (arith, ints))
-
-pub lower_end : (a : Interval) → IsCanonical a → IsMember a.lo a
-lower_end a c =
-    let top = member_above a.hi a c.last in record { turns = 0; reached = omega (arith, ints); in_range = top }
 
 pub member-up_to : (n r : ℕ) → r ≤ n → r < 2 ^ 31 → IsMember (number r) (up_to n)
 member-up_to n r le h =

@@ -2,7 +2,7 @@
 use Rattle.std.proofs.Common.{◌≡◌, ℕ, ◌*◌, ◌/◌, ◌%◌, ◌^◌, ◌<◌, ap, ap₂}
 use Rattle.std.specs.Prelude.{bit_and, bit_or, bit_xor}
 use Rattle.si_bits.specs.Concrete.{number, and_of, or_of, xor_of, product_of, shl_of, shr_of, sar_of, sar_word, low_of, extension_of, extended_word}
-use Rattle.si_bits.proofs.Signs.{word-number}
+use Rattle.si_bits.proofs.SignLemmas.{word-number}
 
 pub and_of-number : (x y : ℕ) → x < 2 ^ 32 → y < 2 ^ 32 → and_of (number x) (number y) ≡ number (bit_and x y)
 unfolding and_of

@@ -6,7 +6,7 @@ use Rattle.std.proofs.Math.Nat.{div-mul-le_self, div-mul_cancel, le-div_iff_mul-
 use Rattle.std.proofs.lemmas.Int.{ints}
 use Rattle.strided.specs.Interval.{Interval, interval, IsMember, IsCanonical, least, greatest, one}
 use Rattle.strided.specs.Operations.{stepped, spaced}
-use Rattle.strided.proofs.Members.{canonical_by, member_above, member_gap}
+use Rattle.strided.proofs.MemberLemmas.{canonical_by, member_above, member_gap}
 
 pub gap_is : (lo hi : ℤ) → lo ≤ℤ hi → hi ≡ lo +ℤ pos (int_gap lo hi)
 gap_is (pos a) (pos b) h = omega (arith, ints)

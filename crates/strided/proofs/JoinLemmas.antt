@@ -10,9 +10,9 @@ use Rattle.strided.specs.Gcd.{gcd}
 use Rattle.strided.specs.Interval.{Interval, interval, IsMember, IsCanonical, least, greatest}
 use Rattle.strided.specs.Operations.{joint_stride, join, lowest, widen, widened_lo, widened_hi}
 use Rattle.strided.specs.Rows.{HasJoinedEnds, HasWidenedEnds}
-use Rattle.strided.proofs.Members.{member_within, canonical_order, int_le_true, int_le_false, le_int_le, lt_int_le, int_either}
-use Rattle.strided.proofs.Gcd.{gcd_divides_left, gcd_divides_right}
-use Rattle.strided.proofs.Spaced.{gap_is, member_spaced, spaced_canonical, spaced_lo, spaced_hi, spaced_hi_member}
+use Rattle.strided.proofs.MemberLemmas.{member_within, canonical_order, int_le_true, int_le_false, le_int_le, lt_int_le, int_either}
+use Rattle.strided.proofs.GcdLemmas.{gcd_divides_left, gcd_divides_right}
+use Rattle.strided.proofs.SpacedLemmas.{gap_is, member_spaced, spaced_canonical, spaced_lo, spaced_hi, spaced_hi_member}
 
 -- ---- what the joint stride divides
 

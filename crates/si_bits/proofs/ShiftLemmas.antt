@@ -9,12 +9,13 @@ use Rattle.std.specs.Int.{int_shr, w32}
 use Rattle.std.specs.Int.Signed.{shr_z}
 use Rattle.strided.specs.Interval.{Interval, IsMember, IsCanonical}
 use Rattle.strided.specs.Operations.{spaced}
-use Rattle.strided.proofs.Members.{member_above}
+use Rattle.strided.proofs.MemberLemmas.{member_above}
 use Rattle.si_bits.specs.Concrete.{word, number, shr_of, sar_of, sar_word}
 use Rattle.si_bits.specs.Operations.{shifted, shr, sar, is_single, is_natural}
-use Rattle.si_bits.proofs.Floors.{mul_moved, IsFloor, floor_is, same_floor, shr-le}
-use Rattle.si_bits.proofs.Members.{member_single, member_fits, member-one, member-spaced, member-dense, both_true}
-use Rattle.si_bits.proofs.Signs.{number-low, number-high, number-word, word-lt}
+use Rattle.si_bits.proofs.FloorLemmas.{mul_moved, IsFloor, floor_is, same_floor, shr-le}
+use Rattle.si_bits.proofs.MemberLemmas.{member_single, member_fits, member-one, member-spaced, member-dense}
+use Rattle.std.proofs.lemmas.Bool.{and_parts}
+use Rattle.si_bits.proofs.SignLemmas.{number-low, number-high, number-word, word-lt}
 
 -- numbers that add up to one less than p times m have quotients that add up to one less than p
 pub complement_div : (p m x k : ℕ) → 0 < m → x + suc k ≡ p * m → x / m + suc (k / m) ≡ p
@@ -80,7 +81,7 @@ member-shifted a n v m =
     let below = shr-le v a.hi (2 ^ n) (pow_pos n) m.in_range in
     cond_both (a.stride % 2 ^ n == 0 && unsigned_abs a.lo % 2 ^ n == 0) (a.stride / 2 ^ n) 1 (λ (s : ℕ). IsMember (int_shr v n) (spaced s (int_shr a.lo n) (int_shr a.hi n)))
     (λ yes.
-    let s = both_true (a.stride % 2 ^ n == 0) (unsigned_abs a.lo % 2 ^ n == 0) yes in
+    let s = and_parts (a.stride % 2 ^ n == 0) (unsigned_abs a.lo % 2 ^ n == 0) yes in
     member-spaced (a.stride / 2 ^ n) (int_shr a.lo n) (int_shr a.hi n) (int_shr v n) m.turns
     (shr-moved a.lo v m.turns a.stride (2 ^ n) m.reached (pow_pos n) (eqb-true (a.stride % 2 ^ n) 0 s.0)) below)
     (λ _. member-dense (int_shr a.lo n) (int_shr a.hi n) (int_shr v n) above below)

@@ -11,14 +11,17 @@ use Rattle.std.specs.Int.Bits.{and_zero_r}
 use Rattle.std.specs.Int.Signed.{shr_z}
 use Rattle.strided.specs.Interval.{Interval, IsMember, IsCanonical}
 use Rattle.strided.specs.Operations.{spaced}
-use Rattle.strided.proofs.Members.{member_above}
+use Rattle.strided.proofs.MemberLemmas.{member_above}
 use Rattle.si_bits.specs.Concrete.{word, number, and_of, or_of, xor_of}
 use Rattle.si_bits.specs.Operations.{masked, aligned, under_mask, and, or, xor, within_bits, is_single, is_natural, up_to}
-use Rattle.si_bits.proofs.Floors.{mul_moved, distance, shr-le}
-use Rattle.si_bits.proofs.Products.{mul_pos-le}
-use Rattle.si_bits.proofs.Shifts.{shr-moved, complement_div, power_split, power_le}
-use Rattle.si_bits.proofs.Members.{member_single, member_fits, member-one, member-full, member-spaced, member-dense, both_true, lower_end, member-up_to}
-use Rattle.si_bits.proofs.Signs.{number-low, number-high, number_fits, word-lt, word-natural, abs-natural}
+use Rattle.si_bits.proofs.FloorLemmas.{mul_moved, distance, shr-le}
+use Rattle.si_bits.proofs.ProductLemmas.{mul_pos-le}
+use Rattle.si_bits.proofs.ShiftLemmas.{shr-moved, complement_div, power_split, power_le}
+use Rattle.si_bits.proofs.MemberLemmas.{member_single, member_fits, member-one, member-spaced, member-dense, member-up_to}
+use Rattle.strided.proofs.SumLemmas.{member_full}
+use Rattle.strided.proofs.BoundLemmas.{member_lo}
+use Rattle.std.proofs.lemmas.Bool.{and_parts}
+use Rattle.si_bits.proofs.SignLemmas.{number-low, number-high, number_fits, word-lt, word-natural, abs-natural}
 
 -- ---- the zeros at the low end of a mask
 
@@ -141,7 +144,7 @@ and_of-aligned_le v w (suc j) some h power f g le =
 pub member-lowered : (a : Interval) (j t : ℕ) (v : ℤ) → t < 32 → suc j ≡ 2 ^ t → IsCanonical a → IsMember v a
     → IsMember (and_of v (negsuc j)) (spaced (if a.stride % suc j == 0 then a.stride else suc j) (and_of a.lo (negsuc j)) (and_of a.hi (negsuc j)))
 member-lowered a j t v h e ca n =
-    let fits-lo = member_fits a.lo a ca (lower_end a ca) in
+    let fits-lo = member_fits a.lo a ca (member_lo a ca) in
     let fits-hi = member_fits a.hi a ca ca.last in
     rw (and_of-aligned v t j h e (member_fits v a ca n), and_of-aligned a.lo t j h e fits-lo, and_of-aligned a.hi t j h e fits-hi, e)
     (member-floors a (2 ^ t) v (pow_pos t) n)
@@ -154,7 +157,7 @@ member-aligned a (suc j) v some h ca n =
     (λ yes.
     let power : 2 ^ trailing_zeros w32 (suc j) ≡ suc j = eqb-true (2 ^ trailing_zeros w32 (suc j)) (suc j) yes in
     member-lowered a j (trailing_zeros w32 (suc j)) v (trailing_zeros-small (suc j) h power) (sym power) ca n)
-    (λ _. member-full (and_of v (negsuc j)) (and_of-fits v (negsuc j) (member_fits v a ca n)))
+    (λ _. member_full (and_of v (negsuc j)) (and_of-fits v (negsuc j) (member_fits v a ca n)))
 
 -- ---- and
 
@@ -181,7 +184,7 @@ member-and a b v w ca cb m n =
     let below-w = n.in_range in
     cond_both (is_single a && is_single b) _ _ (IsMember (and_of v w))
     (λ yes.
-    let s = both_true (is_single a) (is_single b) yes in
+    let s = and_parts (is_single a) (is_single b) yes in
     member-one (and_of v w) (and_of a.lo b.lo)
     (ap₂ and_of (member_single v a (eqb-true a.stride 0 s.0) m) (member_single w b (eqb-true b.stride 0 s.1) n)))
     (λ _. cond_both (is_single b) _ _ (IsMember (and_of v w))
@@ -190,14 +193,14 @@ member-and a b v w ca cb m n =
     (λ yes. let e = member_single v a (eqb-true a.stride 0 yes) m in rw (e, and_of-comm a.lo w) (member-under_mask b a.lo w (rw e at fits-v) cb n))
     (λ _. cond_both (is_natural a && is_natural b) _ _ (IsMember (and_of v w))
     (λ yes.
-    let s = both_true (is_natural a) (is_natural b) yes in
+    let s = and_parts (is_natural a) (is_natural b) yes in
     let low-a = s.0 in
     let low-b = s.1 in
     let within = and_of-natural v w (omega (arith, ints)) (omega (arith, ints)) fits-v fits-w in
     let within-0 = within.0 in
     let within-1 = within.1 in
     member-dense (pos 0) (int_min a.hi b.hi) (and_of v w) within.0 (omega (arith, ints, clamps)))
-    (λ _. member-full (and_of v w) (and_of-fits v w fits-v)))))
+    (λ _. member_full (and_of v w) (and_of-fits v w fits-v)))))
 
 -- ---- or and xor
 
@@ -240,7 +243,7 @@ member-within_bits a b v w r ca cb m n below =
     let fits-w = member_fits w b cb n in
     cond_both (is_natural a && is_natural b) _ _ (IsMember (number r))
     (λ yes.
-    let s = both_true (is_natural a) (is_natural b) yes in
+    let s = and_parts (is_natural a) (is_natural b) yes in
     let low-a = s.0 in
     let low-b = s.1 in
     let above-v = member_above v a m in
@@ -254,14 +257,14 @@ member-within_bits a b v w r ca cb m n below =
     let high-b = cb.high in
     let most : unsigned_abs (int_max a.hi b.hi) < 2 ^ 31 = omega (arith, ints, clamps) in
     within_digits (unsigned_abs (int_max a.hi b.hi)) (word v) (word w) r most (omega (arith, ints, clamps)) (omega (arith, ints, clamps)) below)
-    (λ _. member-full (number r) (number_fits r (below 32 (word-lt v fits-v) (word-lt w fits-w))))
+    (λ _. member_full (number r) (number_fits r (below 32 (word-lt v fits-v) (word-lt w fits-w))))
 
 pub member-or : (a b : Interval) (v w : ℤ) → IsCanonical a → IsCanonical b → IsMember v a → IsMember w b → IsMember (or_of v w) (or a b)
 unfolding or or_of
 member-or a b v w ca cb m n =
     cond_both (is_single a && is_single b) _ _ (IsMember (or_of v w))
     (λ yes.
-    let s = both_true (is_single a) (is_single b) yes in
+    let s = and_parts (is_single a) (is_single b) yes in
     member-one (or_of v w) (or_of a.lo b.lo)
     (ap₂ or_of (member_single v a (eqb-true a.stride 0 s.0) m) (member_single w b (eqb-true b.stride 0 s.1) n)))
     (λ _. member-within_bits a b v w (bit_or (word v) (word w)) ca cb m n (λ k. or_lt k (word v) (word w)))
@@ -271,7 +274,7 @@ unfolding xor xor_of
 member-xor a b v w ca cb m n =
     cond_both (is_single a && is_single b) _ _ (IsMember (xor_of v w))
     (λ yes.
-    let s = both_true (is_single a) (is_single b) yes in
+    let s = and_parts (is_single a) (is_single b) yes in
     member-one (xor_of v w) (xor_of a.lo b.lo)
     (ap₂ xor_of (member_single v a (eqb-true a.stride 0 s.0) m) (member_single w b (eqb-true b.stride 0 s.1) n)))
     (λ _. member-within_bits a b v w (bit_xor (word v) (word w)) ca cb m n (λ k. xor_lt k (word v) (word w)))

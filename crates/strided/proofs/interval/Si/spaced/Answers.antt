@@ -1,8 +1,8 @@
 -- One member, or as many strides as the distance has.
 use Rattle.std.proofs.Common.{◌≡◌, ℕ, ◌*◌, ◌/◌, ap, arith}
 use Rattle.std.proofs.lemmas.Int.{ints}
-use Rattle.strided.proofs.Spaced.{spaced_of_one, spaced_of_many}
-use Rattle.strided.proofs.interval.spaced.Goals as goal
+use Rattle.strided.proofs.SpacedLemmas.{spaced_of_one, spaced_of_many}
+use Rattle.strided.proofs.interval.Si.spaced.Goals as goal
 
 pub returns-then-turns-eq0 : goal.returns-then-turns-eq0
 returns-then-turns-eq0 c =

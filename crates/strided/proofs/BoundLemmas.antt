@@ -9,8 +9,8 @@ use Rattle.std.proofs.lemmas.Bool.{cond_both, cases_eq, and_parts, and_from, and
 use Rattle.std.proofs.lemmas.Int.{ints, clamps}
 use Rattle.strided.specs.Interval.{Interval, interval, IsMember, IsCanonical, IsBelow, IsWithin, IsClipped, HasMembers}
 use Rattle.strided.specs.Operations.{spaced, span, first_from, clip, has, meet, below, count}
-use Rattle.strided.proofs.Members.{member_at, member_gap, member_within, member_above, canonical_order, divides_tells, int_le_true, int_le_false, le_int_le, lt_int_le, int_either}
-use Rattle.strided.proofs.Spaced.{gap_is, member_spaced, spaced_member, spaced_canonical, same_spaced}
+use Rattle.strided.proofs.MemberLemmas.{member_at, member_gap, member_within, member_above, canonical_order, divides_tells, int_le_true, int_le_false, le_int_le, lt_int_le, int_either}
+use Rattle.strided.proofs.SpacedLemmas.{gap_is, member_spaced, spaced_member, spaced_canonical, same_spaced}
 
 -- ---- the next multiple of a stride
 

@@ -1,38 +1,18 @@
 -- What the code computes is the shape that a formula names.
-use Rattle.std.proofs.Common.{◌≡◌, ℕ, ◌*◌, ◌-◌, ◌/◌, ◌%◌, ◌^◌, ◌<◌, arith, ap, ◌∙◌, sym, true, false, ◌&&◌}
+use Rattle.std.proofs.Common.{◌≡◌, ℕ, ◌-◌, ◌/◌, ◌%◌, ◌^◌, ◌<◌, arith, ap, ◌∙◌, sym, true, false, ◌&&◌}
 use Rattle.std.proofs.lemmas.Bool.{cond-true, cond-false, ne_eqb, eq-eqb}
-use Rattle.std.specs.Prelude.{ℤ, pos, ◌+ℤ◌, FitsSigned, int_le, ◌==◌, neg_ℤ, if◌then◌else◌}
+use Rattle.std.specs.Prelude.{ℤ, pos, int_le, ◌==◌, neg_ℤ, if◌then◌else◌}
 use Rattle.std.specs.Int.{w32, int_shr, leading_zeros, trailing_zeros}
-use Rattle.strided.specs.Interval.{Interval, interval, IsCanonical, full, one, least, greatest}
+use Rattle.strided.specs.Interval.{Interval, IsCanonical, full, one, least, greatest}
 use Rattle.strided.specs.Operations.{spaced}
-use Rattle.strided.proofs.Spaced.{spaced_one, spaced_many}
-use Rattle.si_bits.specs.Concrete.{word, number, and_of, sar_of}
+use Rattle.si_bits.specs.Concrete.{and_of, sar_of}
 use Rattle.si_bits.specs.Operations.{aligned, bounded, is_single, is_natural, up_to, sar, shr, shifted}
-use Rattle.si_bits.proofs.Signs.{number-word}
-use Rattle.si_bits.proofs.Shifts.{sar_of-is, power_le}
-use Rattle.si_bits.proofs.Masks.{digits_above}
-use Rattle.si_bits.proofs.Members.{member_fits, lower_end}
+use Rattle.si_bits.proofs.ShiftLemmas.{sar_of-is, power_le}
+use Rattle.si_bits.proofs.MaskLemmas.{digits_above}
+use Rattle.si_bits.proofs.MemberLemmas.{member_fits}
+use Rattle.strided.proofs.BoundLemmas.{member_lo}
 use Rattle.std.proofs.lemmas.Nat.{pow_pos}
 use Rattle.std.proofs.lemmas.Nat.Bits.{ones_shr}
-
-pub spaced-alone : (s n : ℕ) (lo hi : ℤ) (r : Interval) → FitsSigned w32 lo → FitsSigned w32 hi
-    → number (word hi) ≡ (number (word lo) +ℤ pos n) → n / s ≡ 0 → r ≡ one (number (word lo)) → r ≡ spaced s lo hi
-spaced-alone s n lo hi r f g at none is =
-    let from = number-word lo f in
-    let to = number-word hi g in
-    let rise : hi ≡ (lo +ℤ pos n) = sym to ∙ at ∙ ap (λ (z : ℤ). z +ℤ pos n) from in
-    is ∙ ap one from ∙ sym (spaced_one s n lo hi rise none)
-
-pub spaced-several : (s t n : ℕ) (lo hi top : ℤ) (r : Interval) → FitsSigned w32 lo → FitsSigned w32 hi → FitsSigned w32 top
-    → number (word hi) ≡ (number (word lo) +ℤ pos n) → t ≡ n / s → ¬ (t ≡ 0) → top ≡ (number (word lo) +ℤ pos (t * s))
-    → r ≡ interval s (number (word lo)) (number (word top)) → r ≡ spaced s lo hi
-spaced-several s t n lo hi top r f g h at is-t some is-top is =
-    let from = number-word lo f in
-    let to = number-word hi g in
-    let last = number-word top h in
-    let rise : hi ≡ (lo +ℤ pos n) = sym to ∙ at ∙ ap (λ (z : ℤ). z +ℤ pos n) from in
-    let reach : top ≡ (lo +ℤ pos (n / s * s)) = is-top ∙ ap (λ (z : ℤ). z +ℤ pos (t * s)) from ∙ ap (λ (k : ℕ). lo +ℤ pos (k * s)) is-t in
-    is ∙ ap (λ (z : ℤ). interval s z (number (word top))) from ∙ ap (interval s lo) last ∙ sym (spaced_many s n lo hi top rise (omega arith) reach)
 
 pub bounded-words : (s : ℕ) (lo hi : ℤ) → (int_le least lo && int_le hi greatest) ≡ true → bounded s lo hi ≡ spaced s lo hi
 unfolding bounded
@@ -47,7 +27,7 @@ bounded-full s lo hi words = cond-false (int_le least lo && int_le hi greatest) 
 pub sar-single : (a : Interval) (n : ℕ) (r : Interval) → n < 32 → IsCanonical a → is_single a ≡ true → r ≡ one (int_shr a.lo n) → r ≡ sar a n
 unfolding sar
 sar-single a n r h canonical single is =
-    is ∙ ap one (sym (sar_of-is n a.lo h (member_fits a.lo a canonical (lower_end a canonical)))) ∙ sym (cond-true (is_single a) (one (sar_of n a.lo)) (shifted a n) single)
+    is ∙ ap one (sym (sar_of-is n a.lo h (member_fits a.lo a canonical (member_lo a canonical)))) ∙ sym (cond-true (is_single a) (one (sar_of n a.lo)) (shifted a n) single)
 
 ones_right : (n : ℕ) → n < 32 → 4294967295 / 2 ^ n ≡ 2 ^ (32 - n) - 1
 ones_right n h = ones_shr 32 n (omega arith)

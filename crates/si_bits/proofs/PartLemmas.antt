@@ -7,12 +7,13 @@ use Rattle.std.specs.Prelude.{ℤ, pos, negsuc, neg_ℤ, ◌≤ℤ◌, ◌<ℤ�
 use Rattle.std.specs.Int.{w32}
 use Rattle.strided.specs.Interval.{Interval, IsMember, IsCanonical}
 use Rattle.strided.specs.Operations.{spaced}
-use Rattle.strided.proofs.Members.{member_above}
+use Rattle.strided.proofs.MemberLemmas.{member_above}
 use Rattle.si_bits.specs.Concrete.{word, number, low_of, extension_of, extended_word}
 use Rattle.si_bits.specs.Operations.{low, sign_extend, is_single, is_natural, up_to}
-use Rattle.si_bits.proofs.Shifts.{power_le}
-use Rattle.si_bits.proofs.Members.{member_single, member_fits, member-one, member-spaced, member-dense, both_true, member-up_to}
-use Rattle.si_bits.proofs.Signs.{number-low, number-high}
+use Rattle.si_bits.proofs.ShiftLemmas.{power_le}
+use Rattle.si_bits.proofs.MemberLemmas.{member_single, member_fits, member-one, member-spaced, member-dense, member-up_to}
+use Rattle.std.proofs.lemmas.Bool.{and_parts}
+use Rattle.si_bits.proofs.SignLemmas.{number-low, number-high}
 
 low_of-small : (w : ℕ) (v : ℤ) → pos 0 ≤ℤ v → v <ℤ pos (2 ^ w) → FitsSigned w32 v → low_of w v ≡ v
 unfolding low_of
@@ -36,7 +37,7 @@ member-low w a v h ca m =
     (λ yes. member-one (low_of w v) (low_of w a.lo) (ap (low_of w) (member_single v a (eqb-true a.stride 0 yes) m)))
     (λ _. cond_both (is_natural a && int_lt a.hi (pos (2 ^ w))) _ _ (IsMember (low_of w v))
     (λ yes.
-    let s = both_true (is_natural a) (int_lt a.hi (pos (2 ^ w))) yes in
+    let s = and_parts (is_natural a) (int_lt a.hi (pos (2 ^ w))) yes in
     let low-a = s.0 in
     let high-a = s.1 in
     rw (low_of-small w v (omega (arith, ints)) (omega (arith, ints)) (member_fits v a ca m)) m)

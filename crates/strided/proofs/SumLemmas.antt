@@ -11,9 +11,9 @@ use Rattle.strided.specs.Interval.{Interval, interval, IsMember, IsCanonical, le
 use Rattle.strided.specs.Concrete.{signed, sum_of, difference_of, negation_of}
 use Rattle.strided.specs.Operations.{spaced, fitted, wrap, add, sub, neg}
 use Rattle.strided.specs.Rows.{turned, IsWrapped}
-use Rattle.strided.proofs.Members.{member_at, int_le_true, le_int_le, lt_int_le, full_canonical, one_canonical, canonical_order}
-use Rattle.strided.proofs.Gcd.{gcd_divides_left, gcd_divides_right}
-use Rattle.strided.proofs.Spaced.{gap_is, member_spaced, spaced_canonical}
+use Rattle.strided.proofs.MemberLemmas.{member_at, int_le_true, le_int_le, lt_int_le, full_canonical, one_canonical, canonical_order}
+use Rattle.strided.proofs.GcdLemmas.{gcd_divides_left, gcd_divides_right}
+use Rattle.strided.proofs.SpacedLemmas.{gap_is, member_spaced, spaced_canonical}
 
 pub signed_fits : (z : ℤ) → FitsSigned w32 (signed z)
 signed_fits z = SFits-int_wrap w32 z
