@@ -8,7 +8,7 @@ ghost use Rattle.ia32_decode.specs.Reading.{run};
 use crate::NotDecoded;
 use crate::bytes::{next_byte, number};
 use crate::forms::{
-    form_bytes, has_modrm, is_gs, is_dword, is_memory, is_offset, plain, stores, width_of,
+    form_bytes, has_modrm, is_dword, is_gs, is_memory, is_offset, plain, stores, width_of,
 };
 use crate::memory::memory;
 use crate::prefixes::{bytes_after, is_prefix, next_prefixes, no_prefixes};

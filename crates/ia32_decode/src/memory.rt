@@ -5,7 +5,7 @@ ghost use Rattle.ia32_types.specs.Memory.{displacement as displacement_reader, d
 ghost use Rattle.ia32_decode.specs.Reading.{run};
 
 use crate::NotDecoded;
-use crate::bytes::{next_byte, byte, dword};
+use crate::bytes::{byte, dword, next_byte};
 use crate::forms::sign_extended;
 use ia32_types::{Mem, Reg, Width};
 
@@ -86,7 +86,11 @@ fn scale_of(n: u8) -> u8
 fn index_of(n: u8) -> Option<Reg>
     ensures { result ≡ index_of_spec n }
 {
-    if n == 4 { None } else { Some(Reg::from_number(n)) }
+    if n == 4 {
+        None
+    } else {
+        Some(Reg::from_number(n))
+    }
 }
 
 /// The scale of an index.

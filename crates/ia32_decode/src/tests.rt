@@ -14,23 +14,13 @@ const EAX: Option<Operand> = Some(Operand::Reg(Reg::Eax));
 
 const ECX: Option<Operand> = Some(Operand::Reg(Reg::Ecx));
 
-const EDX: Option<Operand> = Some(Operand::Reg(Reg::Edx));
-
 const EBX: Option<Operand> = Some(Operand::Reg(Reg::Ebx));
 
 const ESP: Option<Operand> = Some(Operand::Reg(Reg::Esp));
 
-const EBP: Option<Operand> = Some(Operand::Reg(Reg::Ebp));
-
-const ESI: Option<Operand> = Some(Operand::Reg(Reg::Esi));
-
 const EDI: Option<Operand> = Some(Operand::Reg(Reg::Edi));
 
 const AH: Option<Operand> = Some(Operand::High(Reg::Eax));
-
-const CH: Option<Operand> = Some(Operand::High(Reg::Ecx));
-
-const BH: Option<Operand> = Some(Operand::High(Reg::Ebx));
 
 /// Where the instructions stand.
 const AT: u32 = 0x1000;
