@@ -252,6 +252,17 @@ def text_tables(size, chance):
     return elf.written(size)
 
 
+def tables_without_nul(size, chance):
+    """As many tables of symbols as there may be, each with a table of strings of its own that has no NUL."""
+    elf = plain_file()
+    table = elf.add(Symbol(1, 0, 0, 1).packed() * (elf.room(size) // 32))
+    text = elf.add(b"a" * elf.room(size))
+    for i in range((elf_files.MOST_SECTIONS - len(elf.sections)) // 2):
+        strings = elf.add_section(elf_files.STRTAB, Part(text.offset, text.size - i))
+        elf.add_section(elf_files.SYMTAB, table, strings)
+    return elf.written(size)
+
+
 # Segments
 
 
@@ -350,6 +361,7 @@ KINDS = {
     "symbols, a text without NUL": symbols_with_names(endless_text, lambda i: 15 * i),
     "a name at each byte of a text": many_names,
     "1023 string tables": text_tables,
+    "511 symbol tables, texts without NUL": tables_without_nul,
     "64 segments of 1 MiB of the file": segments(4096, MIB),
     "64 segments of 1 MiB of zeros": segments(4096, 1),
     "64 segments of 1 MiB that adjoin": segments(0, MIB),

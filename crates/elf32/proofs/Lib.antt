@@ -3,7 +3,8 @@ pub mod Bytes
 pub mod Targets
 pub mod Folding
 pub mod Sound
-pub mod Texts
+pub mod StringLemmas
+pub mod TableLemmas
 pub mod Values
 pub mod Failing
 pub mod Whole

@@ -5,5 +5,5 @@ pub mod Relocating
 pub mod Shapes
 pub mod Programs
 pub mod Loading
-pub mod Ends
+pub mod Strings
 pub mod Found

@@ -1,8 +1,9 @@
 -- Names in string tables, and the symbols of a file (System V ABI, "String Table", "Symbol Table").
-use Rattle.std.specs.Prelude.{ℕ, ◌+◌, ◌/◌, ◌%◌, ◌^◌, ◌==◌, if◌then◌else◌, Option, Some, None, List, [], ◌∷◌, ◌++◌, filter, take, drop, position, slice_get}
-use Rattle.std.specs.List.{flat_map, filter_map}
+use Rattle.std.specs.Prelude.{ℕ, ◌+◌, ◌/◌, ◌%◌, ◌^◌, Bool, ◌==◌, if◌then◌else◌, Option, Some, None, List, [], ◌∷◌, ◌++◌, filter, take, drop, position, slice_get}
+use Rattle.std.specs.List.{flat_map, filter_map, list_any}
 use Rattle.std.specs.Option.{option_and_then, option_map_or}
-use Rattle.image_map.specs.declared.symbols.Symbol.{Symbol}
+use Rattle.image_map.specs.Names.{Symbol}
+use Rattle.image_map.specs.Texts.{is_nul}
 use Rattle.elf32.specs.declared.fields.SectionHeader.{SectionHeader}
 use Rattle.elf32.specs.declared.fields.SymbolEntry.{SymbolEntry}
 use Rattle.elf32.specs.Fields.{symbol_entry, rows}
@@ -14,11 +15,19 @@ section_of ss t i = option_and_then (λ s. if has_type t s then Some s else None
 
 -- the bytes before the first NUL, and none where there is no NUL
 abbrev pub c_string : List ℕ → List ℕ
-c_string bytes = option_map_or (λ n. take n bytes) (position (λ b. b == 0) bytes) []
+c_string bytes = option_map_or (λ n. take n bytes) (position is_nul bytes) []
 
--- the name at an index of the string table (SHT_STRTAB) that a link names
-unfoldable pub name : List ℕ → List SectionHeader → ℕ → ℕ → List ℕ
-name f ss link at = option_map_or (λ s. c_string (drop at (take s.sh_size (drop s.sh_offset f)))) (section_of ss 3 link) []
+-- the bytes of the string table (SHT_STRTAB) that a link names, and none where it names another section
+unfoldable pub string_bytes : List ℕ → List SectionHeader → ℕ → List ℕ
+string_bytes f ss link = option_map_or (λ s. take s.sh_size (drop s.sh_offset f)) (section_of ss 3 link) []
+
+-- the name at an index of the string table that a link names
+abbrev pub name : List ℕ → List SectionHeader → ℕ → ℕ → List ℕ
+name f ss link at = c_string (drop at (string_bytes f ss link))
+
+-- a section links the one with a number
+abbrev pub is_linked : List SectionHeader → ℕ → Bool
+is_linked ss i = list_any (λ s. s.sh_link == i) ss
 
 -- the symbol of an entry, where it has a name and is defined; a value is moved by the bias
 abbrev pub symbol_of : ℕ → List ℕ → SymbolEntry → Option Symbol

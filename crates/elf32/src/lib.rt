@@ -7,9 +7,9 @@ mod error;
 mod fields;
 mod load;
 mod memory;
-mod names;
 mod read;
 mod relocate;
+mod strings;
 mod symbols;
 #[cfg(test)]
 mod tests;

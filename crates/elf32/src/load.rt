@@ -10,7 +10,7 @@ use item_list::Items;
 use std::alloc::{AllocError, Global};
 
 /// The `len` bytes from an offset on, or fewer where the slice ends before.
-fn part(bytes: &[u8], offset: usize, len: usize) -> &[u8]
+pub fn part(bytes: &[u8], offset: usize, len: usize) -> &[u8]
     ensures { result.now ≡ take len (drop offset bytes.now) }
 {
     if offset >= bytes.len() {

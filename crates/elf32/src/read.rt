@@ -1,11 +1,12 @@
 //! Reads an image: the checks in their order, then the segments, the relocations and the symbols.
-ghost use Rattle.std.specs.Prelude.{◌≡◌, ◌<◌, ◌^◌, ◌⊎◌, length, map, Ok, Err, IfOk, IfErr, IfSome};
+ghost use Rattle.std.specs.Prelude.{◌≡◌, ◌<◌, ◌^◌, ◌⊎◌, length, map, Ok, Err, IfOk, IfErr};
 ghost use Rattle.std.specs.List.{flat_map};
 ghost use Rattle.std.specs.Arc.{arc_value};
 ghost use Rattle.image_map.specs.Whole.{IsImage};
 ghost use Rattle.elf32.specs.declared.error.ElfError.TheVariants as errors;
 ghost use Rattle.elf32.specs.Checks.{bias as bias_of, loads as loads_of, sections as sections_of, segments_cause};
-ghost use Rattle.elf32.specs.Ends.{AreTexts, IsText, text_of};
+ghost use Rattle.image_map.specs.Texts.{text_at};
+ghost use Rattle.elf32.specs.Strings.{AreStrings};
 ghost use Rattle.elf32.specs.Loading.{header_failure, begun, extern_name, failure, Shows, Loads};
 ghost use Rattle.elf32.specs.Programs.{shown};
 ghost use Rattle.elf32.specs.Relocating.{relocated, relocations_of};
@@ -19,10 +20,10 @@ use crate::error::ElfError;
 use crate::fields::{ProgramHeader, SectionHeader, SymbolId, symbol_entry, word};
 use crate::load::segments;
 use crate::memory::Memory;
-use crate::names::{Text, Texts, find_texts, name_at};
 use crate::relocate::{Program, relocate_all};
-use crate::symbols::symbols;
-use image_map::{EMPTY_HASH, Extern, Image, Name, Spans};
+use crate::strings::{Strings, file_strings, name_start, table_at};
+use crate::symbols::symbol_places;
+use image_map::{Extern, Image, Name, Spans, Symbols};
 use item_list::Items;
 use std::alloc::{AllocError, Global};
 use std::sync::Arc;
@@ -44,66 +45,57 @@ fn header_failure(bytes: &[u8]) -> Option<ElfError>
     short_tables(bytes)
 }
 
-/// The name of an extern in the file.
-fn extern_text(
-    bytes: &[u8],
-    texts: &Texts,
-    sections: &[SectionHeader],
-    id: &SymbolId,
-) -> Option<Text>
-    requires { AreTexts bytes.now texts.now }
-    ensures name { text_of bytes.now result ≡ extern_name bytes.now sections.now id.now }
-    ensures is_text { IfSome result (λ t. IsText bytes.now t) }
+/// Where the name of an extern begins among the strings of the file, and their end where it has none.
+fn extern_start(bytes: &[u8], sections: &[SectionHeader], strings: &Strings, id: &SymbolId) -> u32
+    requires small { length bytes.now < 2 ^ 32 }
+    requires strings { AreStrings bytes.now sections.now strings.now.buffer.items strings.now.tables.items }
+    ensures { text_at strings.now.buffer.items result ≡ extern_name bytes.now sections.now id.now }
 {
+    let buffer = strings.buffer.as_slice();
     match sections.get(id.table as usize) {
-        None => None,
-        Some(table) => {
-            let entry = symbol_entry(bytes, table.sh_offset, id.index);
-            name_at(bytes, texts, sections, table.sh_link, entry.st_name)
+        None => buffer.len() as u32,
+        Some(section) => {
+            let entry = symbol_entry(bytes, section.sh_offset, id.index);
+            let table = table_at(strings.tables.as_slice(), section.sh_link);
+            match name_start(buffer, &table, entry.st_name) {
+                None => buffer.len() as u32,
+                Some(start) => start,
+            }
         }
     }
 }
 
-fn extern_of(
-    bytes: &[u8],
-    buffer: &Arc<Vec<u8>, Global>,
-    texts: &Texts,
-    sections: &[SectionHeader],
-    id: &SymbolId,
-) -> Result<Extern, AllocError>
-    requires same { (arc_value buffer.now).items ≡ bytes.now }
-    requires texts { AreTexts bytes.now texts.now }
-    ensures { IfOk result (λ e. e.name ≡ extern_name bytes.now sections.now id.now) }
-{
-    match extern_text(bytes, texts, sections, id) {
-        None => {
-            let name = Name::within(buffer, 0, 0, EMPTY_HASH)?;
-            Ok(Extern { name })
-        }
-        Some(text) => {
-            let name = Name::within(buffer, text.start, text.end, text.hash)?;
-            Ok(Extern { name })
-        }
-    }
-}
-
-/// The externs, each with the name of its symbol.
-fn externs(
+/// Where the names of the externs begin.
+fn extern_starts(
     alloc: Global,
     bytes: &[u8],
-    buffer: &Arc<Vec<u8>, Global>,
-    texts: &Texts,
     sections: &[SectionHeader],
+    strings: &Strings,
     ids: &[SymbolId],
+) -> Result<Vec<u32>, AllocError>
+    requires small { length bytes.now < 2 ^ 32 }
+    requires strings { AreStrings bytes.now sections.now strings.now.buffer.items strings.now.tables.items }
+    ensures { IfOk result (λ v. map (text_at strings.now.buffer.items) v.items ≡ map (extern_name bytes.now sections.now) ids.now) }
+{
+    let mut starts = Vec::new(alloc);
+    for id in ids {
+        starts.push(extern_start(bytes, sections, strings, id))?;
+    }
+    Ok(starts)
+}
+
+/// The externs whose names begin at some places of a buffer.
+fn externs(
+    alloc: Global,
+    buffer: &Arc<Vec<u8>, Global>,
+    starts: &[u32],
 ) -> Result<Vec<Extern>, AllocError>
-    requires same { (arc_value buffer.now).items ≡ bytes.now }
-    requires texts { AreTexts bytes.now texts.now }
-    ensures { IfOk result (λ v. map (λ e. e.name) v.items ≡ map (extern_name bytes.now sections.now) ids.now) }
+    ensures { IfOk result (λ v. map (λ e. e.name) v.items ≡ map (text_at (arc_value buffer.now).items) starts.now) }
 {
     let mut externs = Vec::new(alloc);
-    for id in ids {
-        let found = extern_of(bytes, buffer, texts, sections, id)?;
-        externs.push(found)?;
+    for start in starts {
+        let name = Name::new(buffer, *start)?;
+        externs.push(Extern { name })?;
     }
     Ok(externs)
 }
@@ -148,18 +140,14 @@ fn image(
     requires shapes { shapes program.memory.segments.items ≡ map (load_shape bias) (loads_of bytes.now) }
     ensures { IfOk result (λ i. Shows bytes.now (shown program) i) }
 {
-    let texts = find_texts(alloc, bytes)?;
-    let copy = Vec::from_slice(alloc, bytes)?;
-    let buffer = Arc::new(alloc, copy)?;
-    let symbols = symbols(alloc, bytes, &buffer, &texts, bias, sections)?;
-    let externs = externs(
-        alloc,
-        bytes,
-        &buffer,
-        &texts,
-        sections,
-        program.externs.as_slice(),
-    )?;
+    let strings = file_strings(alloc, bytes, sections)?;
+    let places = symbol_places(alloc, bytes, sections, &strings, bias)?;
+    let ids = program.externs.as_slice();
+    let starts = extern_starts(alloc, bytes, sections, &strings, ids)?;
+    let Strings { buffer, tables: _ } = strings;
+    let buffer = Arc::new(alloc, buffer)?;
+    let symbols = Symbols::at_places(&buffer, places)?;
+    let externs = externs(alloc, &buffer, starts.as_slice())?;
     let Program {
         memory: Memory {
             segments,
@@ -181,8 +169,8 @@ fn image(
 
 /// Reads the image of a file, or says which check is the first that fails.
 ///
-/// Each table is read once, and the names of symbols share one copy of the file. `ElfError::Memory` is want
-/// of memory, and no fault of the file.
+/// Each table is read once, and the names of symbols share one copy of the file's strings. `ElfError::Memory`
+/// is want of memory, and no fault of the file.
 pub fn read_image(alloc: Global, bytes: &[u8]) -> Result<Image, ElfError>
     requires { length bytes.now < 2 ^ 32 }
     // The image of the file, which has one.

@@ -1,199 +1,187 @@
-//! The symbols of a file, each name shared with the file's bytes.
-ghost use Rattle.std.specs.Prelude.{◌≡◌, ◌/◌, ◌<◌, ◌^◌, [], ◌∷◌, length, filter, if◌then◌else◌, IfOk, IfSome, OnOk};
-ghost use Rattle.std.specs.List.{flat_map, cons_option};
-ghost use Rattle.std.specs.Option.{option_map};
-ghost use Rattle.std.specs.Arc.{arc_value};
-ghost use Rattle.image_map.specs.Names.{value_of, HaveSameValues};
-ghost use Rattle.elf32.specs.Fields.{symbol_entry};
+//! The symbols of a file, whose names stand in one buffer.
+ghost use Rattle.std.specs.Prelude.{◌≡◌, ◌/◌, ◌<◌, ◌^◌, true, false, [], ◌∷◌, length, filter, slice_index_or, if◌then◌else◌, IfOk, IfSome, OnOk};
+ghost use Rattle.std.specs.List.{flat_map, filter_map, cons_option};
+ghost use Rattle.image_map.specs.Names.{symbol_at, symbols_at, HaveSameValues};
+ghost use Rattle.elf32.specs.Fields.{symbol_entry as symbol_entry_spec, rows};
 ghost use Rattle.elf32.specs.Checks.{has_type};
-ghost use Rattle.elf32.specs.Names.{symbol_in, symbols_of, symbols_in};
-ghost use Rattle.elf32.specs.Ends.{AreTexts, IsText};
-ghost use Rattle.elf32.specs.Found.{IsFound, Adds, symbol_at};
+ghost use Rattle.elf32.specs.Names.{is_linked, symbols_of, symbols_in};
+ghost use Rattle.elf32.specs.Found.{IsFound, Adds};
+ghost use Rattle.elf32.specs.Strings.{AreStrings, name_start as name_start_spec, place_of, placed, table_at as table_at_spec};
 
 use crate::checks::{SHT_DYNSYM, SHT_SYMTAB};
-use crate::fields::{SectionHeader, symbol_entry};
-use crate::names::{Text, Texts, name_at};
-use image_map::{Name, Symbol, Symbols};
+use crate::fields::{SectionHeader, SymbolEntry, symbol_entry};
+use crate::strings::{StringTable, Strings, name_start, table_at};
+use image_map::SymbolPlace;
 use std::alloc::{AllocError, Global};
-use std::sync::Arc;
 
-/// A symbol of the file: its name there, and its value.
-#[derive(Clone, Copy)]
-struct Place {
-    text: Text,
-    value: u32,
-}
-
-/// The symbols found so far, and for each offset of the file whether the name there is among them: so that
+/// The symbols found so far, and for each place of the buffer whether the name there is among them: so that
 /// tables that overlap add no symbol again.
 #[derive(Drop)]
 struct Found {
-    symbols: Vec<Symbol>,
+    places: Vec<SymbolPlace>,
     seen: Vec<bool>,
 }
 
 impl Found {
-    /// Adds a symbol, unless the name at its place is there already.
-    fn add(&mut self, buffer: &Arc<Vec<u8>, Global>, place: &Place) -> Result<(), AllocError>
-        requires found { IsFound (arc_value buffer.now).items self.old.seen.items self.old.symbols.items }
-        requires text { IsText (arc_value buffer.now).items place.now.text }
-        ensures adds { OnOk result (Adds self.old.symbols.items self.new.symbols.items (symbol_at (arc_value buffer.now).items place.now ∷ [])) }
-        ensures found { OnOk result (IsFound (arc_value buffer.now).items self.new.seen.items self.new.symbols.items) }
+    fn has_seen(&self, start: usize) -> bool
+        ensures { result ≡ slice_index_or self.now.seen.items start false }
     {
+        match self.seen.get(start) {
+            Some(seen) => *seen,
+            None => false,
+        }
+    }
+
+    /// Adds a symbol, unless the name at its place is there already.
+    fn add(&mut self, buffer: &[u8], place: &SymbolPlace) -> Result<(), AllocError>
+        requires found { IsFound buffer.now self.old.seen.items (symbols_at buffer.now self.old.places.items) }
+        requires within { place.now.start < length buffer.now }
+        ensures adds { OnOk result (Adds (symbols_at buffer.now self.old.places.items) (symbols_at buffer.now self.new.places.items) (symbol_at buffer.now place.now ∷ [])) }
+        ensures found { OnOk result (IsFound buffer.now self.new.seen.items (symbols_at buffer.now self.new.places.items)) }
+    {
+        let start = place.start as usize;
         let seen = self.seen.as_slice();
-        let text = place.text;
-        if seen[text.start] {
+        if seen[start] {
             return Ok(());
         }
-        let name = Name::within(buffer, text.start, text.end, text.hash)?;
-        self.symbols.push(Symbol {
-            name,
-            value: place.value,
-        })?;
-        self.seen[text.start] = true;
+        self.places.push(*place)?;
+        self.seen[start] = true;
         Ok(())
     }
 }
 
-/// The symbol with an index in a table, where it has a name and is defined.
+/// The symbol of an entry, where it is defined and has a name among some strings.
 fn symbol_place(
-    bytes: &[u8],
-    texts: &Texts,
+    buffer: &[u8],
+    strings: &StringTable,
     bias: u32,
-    sections: &[SectionHeader],
-    table: &SectionHeader,
-    index: u32,
-) -> Option<Place>
-    requires { AreTexts bytes.now texts.now }
-    ensures symbol { option_map (symbol_at bytes.now) result ≡ symbol_in bytes.now bias sections.now table.now (symbol_entry bytes.now table.now.sh_offset index) }
-    ensures text { IfSome result (λ p. IsText bytes.now p.text) }
+    entry: &SymbolEntry,
+) -> Option<SymbolPlace>
+    requires { length buffer.now < 2 ^ 32 }
+    ensures place { result ≡ place_of bias (name_start_spec buffer.now strings.now entry.now.st_name) entry.now }
+    ensures within { IfSome result (λ p. p.start < length buffer.now) }
 {
-    let entry = symbol_entry(bytes, table.sh_offset, index);
-    match name_at(bytes, texts, sections, table.sh_link, entry.st_name) {
+    match name_start(buffer, strings, entry.st_name) {
         None => None,
-        Some(text) => {
+        Some(start) => {
             if entry.st_shndx == 0 {
                 return None;
             }
             let value = entry.st_value.wrapping_add(bias);
-            Some(Place { text, value })
+            Some(SymbolPlace { start, value })
         }
     }
 }
 
-/// Adds the symbol with an index in a table, where it has a name and is defined.
+/// Adds the symbol of an entry, where it is defined and has a name.
 fn add_symbol(
-    bytes: &[u8],
-    buffer: &Arc<Vec<u8>, Global>,
-    texts: &Texts,
+    buffer: &[u8],
+    strings: &StringTable,
     bias: u32,
-    sections: &[SectionHeader],
-    table: &SectionHeader,
-    index: u32,
+    entry: &SymbolEntry,
     found: &mut Found,
 ) -> Result<(), AllocError>
-    requires same { (arc_value buffer.now).items ≡ bytes.now }
-    requires texts { AreTexts bytes.now texts.now }
-    requires found { IsFound bytes.now found.old.seen.items found.old.symbols.items }
-    ensures adds { OnOk result (Adds found.old.symbols.items found.new.symbols.items (cons_option (symbol_in bytes.now bias sections.now table.now (symbol_entry bytes.now table.now.sh_offset index)) [])) }
-    ensures found { OnOk result (IsFound bytes.now found.new.seen.items found.new.symbols.items) }
+    requires few { length buffer.now < 2 ^ 32 }
+    requires found { IsFound buffer.now found.old.seen.items (symbols_at buffer.now found.old.places.items) }
+    ensures adds { OnOk result (Adds (symbols_at buffer.now found.old.places.items) (symbols_at buffer.now found.new.places.items) (cons_option (placed buffer.now bias strings.now entry.now) [])) }
+    ensures found { OnOk result (IsFound buffer.now found.new.seen.items (symbols_at buffer.now found.new.places.items)) }
 {
-    match symbol_place(bytes, texts, bias, sections, table, index) {
+    // Most entries of tables that overlap end here, after one look into memory.
+    if found.has_seen(strings.start as usize + entry.st_name as usize) {
+        return Ok(());
+    }
+    match symbol_place(buffer, strings, bias, entry) {
         None => Ok(()),
         Some(place) => found.add(buffer, &place),
     }
 }
 
-/// Adds the symbols of a table.
+/// Adds the symbols of a table, whose names stand in some strings.
 fn add_table(
     bytes: &[u8],
-    buffer: &Arc<Vec<u8>, Global>,
-    texts: &Texts,
+    buffer: &[u8],
+    strings: &StringTable,
     bias: u32,
-    sections: &[SectionHeader],
     table: &SectionHeader,
     found: &mut Found,
 ) -> Result<(), AllocError>
-    requires same { (arc_value buffer.now).items ≡ bytes.now }
-    requires texts { AreTexts bytes.now texts.now }
-    requires found { IsFound bytes.now found.old.seen.items found.old.symbols.items }
-    ensures adds { OnOk result (Adds found.old.symbols.items found.new.symbols.items (symbols_of bytes.now bias sections.now table.now)) }
-    ensures found { OnOk result (IsFound bytes.now found.new.seen.items found.new.symbols.items) }
+    requires few { length buffer.now < 2 ^ 32 }
+    requires found { IsFound buffer.now found.old.seen.items (symbols_at buffer.now found.old.places.items) }
+    ensures adds { OnOk result (Adds (symbols_at buffer.now found.old.places.items) (symbols_at buffer.now found.new.places.items) (filter_map (placed buffer.now bias strings.now) (rows (symbol_entry_spec bytes.now table.now.sh_offset) (table.now.sh_size / 16)))) }
+    ensures found { OnOk result (IsFound buffer.now found.new.seen.items (symbols_at buffer.now found.new.places.items)) }
 {
     let count = table.sh_size / 16;
     for index in 0..count {
-        add_symbol(bytes, buffer, texts, bias, sections, table, index, found)?;
+        let entry = symbol_entry(bytes, table.sh_offset, index);
+        add_symbol(buffer, strings, bias, &entry, found)?;
     }
     Ok(())
 }
 
-/// Adds the symbols of a section, where it has a type.
+/// Adds the symbols of one of the sections, where it has a type.
 fn add_section(
     bytes: &[u8],
-    buffer: &Arc<Vec<u8>, Global>,
-    texts: &Texts,
-    bias: u32,
     sections: &[SectionHeader],
+    strings: &Strings,
+    bias: u32,
     sh_type: u32,
     section: &SectionHeader,
     found: &mut Found,
 ) -> Result<(), AllocError>
-    requires same { (arc_value buffer.now).items ≡ bytes.now }
-    requires texts { AreTexts bytes.now texts.now }
-    requires found { IsFound bytes.now found.old.seen.items found.old.symbols.items }
-    ensures adds { OnOk result (Adds found.old.symbols.items found.new.symbols.items (if has_type sh_type section.now then symbols_of bytes.now bias sections.now section.now else [])) }
-    ensures found { OnOk result (IsFound bytes.now found.new.seen.items found.new.symbols.items) }
+    requires small { length bytes.now < 2 ^ 32 }
+    requires linked { is_linked sections.now section.now.sh_link ≡ true }
+    requires strings { AreStrings bytes.now sections.now strings.now.buffer.items strings.now.tables.items }
+    requires found { IsFound strings.now.buffer.items found.old.seen.items (symbols_at strings.now.buffer.items found.old.places.items) }
+    ensures adds { OnOk result (Adds (symbols_at strings.now.buffer.items found.old.places.items) (symbols_at strings.now.buffer.items found.new.places.items) (if has_type sh_type section.now then symbols_of bytes.now bias sections.now section.now else [])) }
+    ensures found { OnOk result (IsFound strings.now.buffer.items found.new.seen.items (symbols_at strings.now.buffer.items found.new.places.items)) }
 {
     if section.sh_type != sh_type {
         return Ok(());
     }
-    add_table(bytes, buffer, texts, bias, sections, section, found)
+    let table = table_at(strings.tables.as_slice(), section.sh_link);
+    let buffer = strings.buffer.as_slice();
+    add_table(bytes, buffer, &table, bias, section, found)
 }
 
 /// Adds the symbols of the tables of a type.
 fn add_tables(
     bytes: &[u8],
-    buffer: &Arc<Vec<u8>, Global>,
-    texts: &Texts,
-    bias: u32,
     sections: &[SectionHeader],
+    strings: &Strings,
+    bias: u32,
     sh_type: u32,
     found: &mut Found,
 ) -> Result<(), AllocError>
-    requires same { (arc_value buffer.now).items ≡ bytes.now }
-    requires texts { AreTexts bytes.now texts.now }
-    requires found { IsFound bytes.now found.old.seen.items found.old.symbols.items }
-    ensures adds { OnOk result (Adds found.old.symbols.items found.new.symbols.items (flat_map (symbols_of bytes.now bias sections.now) (filter (has_type sh_type) sections.now))) }
-    ensures found { OnOk result (IsFound bytes.now found.new.seen.items found.new.symbols.items) }
+    requires small { length bytes.now < 2 ^ 32 }
+    requires strings { AreStrings bytes.now sections.now strings.now.buffer.items strings.now.tables.items }
+    requires found { IsFound strings.now.buffer.items found.old.seen.items (symbols_at strings.now.buffer.items found.old.places.items) }
+    ensures adds { OnOk result (Adds (symbols_at strings.now.buffer.items found.old.places.items) (symbols_at strings.now.buffer.items found.new.places.items) (flat_map (symbols_of bytes.now bias sections.now) (filter (has_type sh_type) sections.now))) }
+    ensures found { OnOk result (IsFound strings.now.buffer.items found.new.seen.items (symbols_at strings.now.buffer.items found.new.places.items)) }
 {
     for section in sections {
-        add_section(
-            bytes, buffer, texts, bias, sections, sh_type, section, found,
-        )?;
+        add_section(bytes, sections, strings, bias, sh_type, section, found)?;
     }
     Ok(())
 }
 
-/// The symbols of a file.
-pub fn symbols(
+/// The symbols of a file, by the places of their names among its strings.
+pub fn symbol_places(
     alloc: Global,
     bytes: &[u8],
-    buffer: &Arc<Vec<u8>, Global>,
-    texts: &Texts,
-    bias: u32,
     sections: &[SectionHeader],
-) -> Result<Symbols, AllocError>
-    requires same { (arc_value buffer.now).items ≡ bytes.now }
-    requires texts { AreTexts bytes.now texts.now }
-    ensures { IfOk result (λ v. HaveSameValues v (symbols_in bytes.now bias sections.now)) }
+    strings: &Strings,
+    bias: u32,
+) -> Result<Vec<SymbolPlace>, AllocError>
+    requires small { length bytes.now < 2 ^ 32 }
+    requires strings { AreStrings bytes.now sections.now strings.now.buffer.items strings.now.tables.items }
+    ensures { IfOk result (λ v. HaveSameValues (symbols_at strings.now.buffer.items v.items) (symbols_in bytes.now bias sections.now)) }
 {
     let mut found = Found {
-        symbols: Vec::new(alloc),
-        seen: vec![in alloc; false; bytes.len()]?,
+        places: Vec::new(alloc),
+        seen: vec![in alloc; false; strings.buffer.len()]?,
     };
-    add_tables(bytes, buffer, texts, bias, sections, SHT_SYMTAB, &mut found)?;
-    add_tables(bytes, buffer, texts, bias, sections, SHT_DYNSYM, &mut found)?;
-    let Found { symbols, seen: _ } = found;
-    let symbols = Symbols::from_vec(symbols)?;
-    Ok(symbols)
+    add_tables(bytes, sections, strings, bias, SHT_SYMTAB, &mut found)?;
+    add_tables(bytes, sections, strings, bias, SHT_DYNSYM, &mut found)?;
+    let Found { places, seen: _ } = found;
+    Ok(places)
 }

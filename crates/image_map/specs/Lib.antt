@@ -3,7 +3,7 @@ pub mod Memory
 pub mod Names
 pub mod Whole
 pub mod Queries
-pub mod Hashes
 pub mod Regions
 pub mod CallModel
 pub mod TotalOrders
+pub mod Texts

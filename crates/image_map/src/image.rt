@@ -8,6 +8,7 @@ use crate::name::Name;
 use crate::spans::Spans;
 use crate::symbols::Symbols;
 use item_list::Items;
+use std::alloc::AllocError;
 
 /// The flag of a segment whose bytes are code (System V ABI, ELF: `PF_X`).
 pub const PF_X: u32 = 1;
@@ -148,5 +149,43 @@ impl Image {
         ensures { result ≡ value_of self.now.symbols name.now }
     {
         self.symbols.value(name)
+    }
+}
+
+impl Clone for Segment {
+    ghost is_clone = { λ s clone. clone ≡ s };
+
+    fn clone(&self) -> Result<Segment, AllocError> {
+        Ok(Segment {
+            start: self.start,
+            bytes: self.bytes.clone()?,
+            flags: self.flags,
+        })
+    }
+}
+
+impl Clone for Extern {
+    ghost is_clone = { λ e clone. clone ≡ e };
+
+    fn clone(&self) -> Result<Extern, AllocError> {
+        Ok(Extern {
+            name: self.name.clone()?,
+        })
+    }
+}
+
+impl Clone for Image {
+    ghost is_clone = { λ i clone. clone ≡ i };
+
+    fn clone(&self) -> Result<Image, AllocError> {
+        Ok(Image {
+            segments: self.segments.clone()?,
+            externs: self.externs.clone()?,
+            symbols: self.symbols.clone()?,
+            any_bytes: self.any_bytes.clone()?,
+            words: self.words.clone()?,
+            entry: self.entry,
+            bias: self.bias,
+        })
     }
 }

@@ -2,7 +2,6 @@
 //! that all later crates give to regions of memory.
 #![tactic(auto)]
 
-mod hash;
 mod image;
 mod name;
 mod region;
@@ -11,11 +10,10 @@ mod symbols;
 #[cfg(test)]
 mod tests;
 
-pub use hash::{EMPTY_HASH, hash_before, hash_of};
 pub use image::{
     Extern, Image, PF_R, PF_W, PF_X, Segment, extern_address, memory_byte, segment_holding,
 };
 pub use name::Name;
 pub use region::{Activation, Block, Cell, Kind, RegionId, Settings};
 pub use spans::{Span, Spans};
-pub use symbols::{Symbol, Symbols};
+pub use symbols::{SymbolPlace, Symbols};

@@ -75,6 +75,16 @@ impl Spans {
     }
 }
 
+impl Clone for Spans {
+    ghost is_clone = { λ s clone. clone ≡ s };
+
+    fn clone(&self) -> Result<Spans, AllocError> {
+        Ok(Spans {
+            spans: self.spans.clone()?,
+        })
+    }
+}
+
 /// How many of the spans end at an address or below it.
 fn passed(spans: &[Span], address: u64) -> usize
     requires { IsRising spans.now }

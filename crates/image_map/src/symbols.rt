@@ -1,124 +1,95 @@
 //! Symbols that are found by their names.
-ghost use Rattle.std.specs.Prelude.{◌≡◌, ◌≤◌, ℕ, List, [], true, false, nat_le, nat_lt, length, IfOk};
-ghost use Rattle.std.specs.List.Sorted.{IsPartitionPoint};
-ghost use Rattle.image_map.specs.Hashes.{hash_of as hash_value};
-ghost use Rattle.image_map.specs.Names.{value_of, HaveSameValues, AreSorted};
+ghost use Rattle.std.specs.Prelude.{◌≡◌, [], find, IfOk};
+ghost use Rattle.std.specs.Arc.{arc_value};
+ghost use Rattle.std.specs.Option.{option_copied};
+ghost use Rattle.std.specs.Str.{bytes_eq};
+ghost use Rattle.image_map.specs.Names.{symbols_at, value_of};
+ghost use Rattle.image_map.specs.Texts.{text_at};
 
-use crate::hash::hash_of;
-use crate::name::Name;
+use crate::name::{is_text, rest};
 use std::alloc::{AllocError, Global};
 use std::marker::Model;
+use std::sync::Arc;
 
-/// A name of the image and its value.
-#[derive(Drop)]
-pub struct Symbol {
-    pub name: Name,
+/// Where a symbol's name begins in a buffer, and the symbol's value.
+#[derive(Clone, Copy, Debug)]
+pub struct SymbolPlace {
+    pub start: u32,
     pub value: u32,
 }
 
-/// Symbols, sorted by the hashes of their names, so that the ones of a name are found by halves. Among
-/// those of one name the first counts.
+/// Symbols, whose names stand in a shared buffer, each up to a NUL. Among those of one name the first counts.
 #[derive(Drop)]
 pub struct Symbols {
-    sorted: Vec<Symbol>,
+    buffer: Arc<Vec<u8>, Global>,
+    places: Vec<SymbolPlace>,
 }
 
 impl Model for Symbols {
     ghost use Rattle.std.specs.Prelude.{List};
-    ghost use Rattle.std.specs.Coded.{coded_list};
-    ghost use Rattle.image_map.specs.declared.symbols.Symbol.{Symbol};
-    ghost use Rattle.image_map.specs.Names.{AreSorted};
+    ghost use Rattle.std.specs.Arc.{arc_value};
+    ghost use Rattle.image_map.specs.Names.{Symbol, symbols_at};
 
     ghost Value = { List Symbol };
 
-    ghost view = { λ s. s.sorted.items };
-
-    ghost invariant = { λ s. AreSorted s.sorted.items };
+    ghost view = { λ s. symbols_at (arc_value s.buffer).items s.places.items };
 }
 
 impl Symbols {
     /// No symbol.
-    pub fn new(alloc: Global) -> Symbols
-        ensures { result ≡ [] }
+    pub fn new(alloc: Global) -> Result<Symbols, AllocError>
+        ensures { IfOk result (λ s. s ≡ []) }
     {
-        Symbols {
-            sorted: Vec::new(alloc),
-        }
+        let buffer = Arc::new(alloc, Vec::new(alloc))?;
+        Ok(Symbols {
+            buffer,
+            places: Vec::new(alloc),
+        })
     }
 
-    /// The symbols of a `Vec`, of which the first of each name counts.
-    pub fn from_vec(symbols: Vec<Symbol>) -> Result<Symbols, AllocError>
-        ensures { IfOk result (λ s. HaveSameValues s symbols.items) }
+    /// The symbols at places of a buffer.
+    pub fn at_places(
+        buffer: &Arc<Vec<u8>, Global>,
+        places: Vec<SymbolPlace>,
+    ) -> Result<Symbols, AllocError>
+        ensures { IfOk result (λ s. s ≡ symbols_at (arc_value buffer.now).items places.items) }
     {
-        let mut sorted = symbols;
-        sorted.sort_by_key(
-            |s: &Symbol| -> u64
-                ensures { result ≡ hash_value s.now.name }
-            { s.name.hash() },
-        )?;
-        Ok(Symbols { sorted })
+        let buffer = Arc::try_clone(buffer)?;
+        Ok(Symbols { buffer, places })
     }
 
-    /// The symbols, lent.
-    pub fn as_slice(&self) -> &[Symbol]
-        ensures { result.now ≡ self.now }
-    {
-        self.sorted.as_slice()
-    }
-
-    /// The value of the first symbol with a name.
+    /// The value of the first symbol with a name. It looks at each symbol before, and there at no more bytes than
+    /// the name has, and one.
     pub fn value(&self, name: &[u8]) -> Option<u32>
         ensures { result ≡ value_of self.now name.now }
     {
-        let hash = hash_of(name);
-        first_value(with_hash(self.sorted.as_slice(), hash), name)
+        let bytes: &Vec<u8> = &self.buffer;
+        first_value(bytes.as_slice(), self.places.as_slice(), name)
     }
 }
 
-/// How many of the symbols have a lower hash.
-fn below(symbols: &[Symbol], hash: u64) -> usize
-    requires { AreSorted symbols.now }
-    ensures point { IsPartitionPoint (λ s. nat_lt (hash_value s.name) hash ≡ true) (λ s. nat_lt (hash_value s.name) hash ≡ false) symbols.now result }
-    ensures within { result ≤ length symbols.now }
-{
-    symbols.partition_point(
-        |s: &Symbol| -> bool
-            ensures { result ≡ nat_lt (hash_value s.now.name) hash }
-        { s.name.hash() < hash },
-    )
-}
+impl Clone for Symbols {
+    ghost is_clone = { λ s clone. clone ≡ s };
 
-/// How many of the symbols have that hash or a lower one.
-fn up_to(symbols: &[Symbol], hash: u64) -> usize
-    requires { AreSorted symbols.now }
-    ensures point { IsPartitionPoint (λ s. nat_le (hash_value s.name) hash ≡ true) (λ s. nat_le (hash_value s.name) hash ≡ false) symbols.now result }
-    ensures within { result ≤ length symbols.now }
-{
-    symbols.partition_point(
-        |s: &Symbol| -> bool
-            ensures { result ≡ nat_le (hash_value s.now.name) hash }
-        { s.name.hash() <= hash },
-    )
-}
-
-/// The symbols whose names have a hash.
-fn with_hash(symbols: &[Symbol], hash: u64) -> &[Symbol]
-    requires { AreSorted symbols.now }
-    ensures { (n : List ℕ) → hash_value n ≡ hash → value_of result.now n ≡ value_of symbols.now n }
-{
-    let first = below(symbols, hash);
-    let last = up_to(symbols, hash);
-    if first < last {
-        &symbols[first..last]
-    } else {
-        &[]
+    fn clone(&self) -> Result<Symbols, AllocError> {
+        Symbols::at_places(&self.buffer, self.places.clone()?)
     }
 }
 
-/// The value of the first symbol with a name, where there are few symbols.
-fn first_value(symbols: &[Symbol], name: &[u8]) -> Option<u32>
-    ensures { result ≡ value_of symbols.now name.now }
+/// The first of the places at which a name stands.
+fn first_place<'a>(buffer: &[u8], places: &'a [SymbolPlace], name: &[u8]) -> Option<&'a SymbolPlace>
+    ensures { option_copied result ≡ find (λ p. bytes_eq (text_at buffer.now p.start) name.now) places.now }
 {
-    let found = symbols.iter().find(|s| s.name.as_slice() == name)?;
-    Some(found.value)
+    places
+        .iter()
+        .find(|place| is_text(rest(buffer, place.start as usize), name))
+}
+
+fn first_value(buffer: &[u8], places: &[SymbolPlace], name: &[u8]) -> Option<u32>
+    ensures { result ≡ value_of (symbols_at buffer.now places.now) name.now }
+{
+    match first_place(buffer, places, name) {
+        Some(place) => Some(place.value),
+        None => None,
+    }
 }

@@ -1,13 +1,10 @@
 use crate::{
-    Cell, EMPTY_HASH, Extern, Image, Kind, Name, PF_R, PF_W, PF_X, RegionId, Segment, Settings,
-    Span, Spans, Symbol, Symbols, extern_address, hash_before, hash_of,
+    Cell, Extern, Image, Kind, Name, PF_R, PF_W, PF_X, RegionId, Segment, Settings, Span, Spans,
+    SymbolPlace, Symbols, extern_address,
 };
 use item_list::Items;
 use std::alloc::{AllocError, Global};
-
-fn name(alloc: Global, text: &[u8]) -> Result<Name, AllocError> {
-    Name::from_vec(alloc, Vec::from_slice(alloc, text)?)
-}
+use std::sync::Arc;
 
 fn segment(alloc: Global, start: u32, bytes: &[u8], flags: u32) -> Result<Segment, AllocError> {
     Ok(Segment {
@@ -17,13 +14,15 @@ fn segment(alloc: Global, start: u32, bytes: &[u8], flags: u32) -> Result<Segmen
     })
 }
 
-fn symbols(alloc: Global) -> Result<Symbols, AllocError> {
-    let mut symbols = Vec::new(alloc);
-    for (text, value) in [(b"main", 1), (b"init", 2), (b"main", 3)] {
-        let name = name(alloc, text)?;
-        symbols.push(Symbol { name, value })?;
+const NAMES: &[u8] = b"main\0init\0puts";
+
+/// Three symbols, of which two have one name.
+fn symbols(buffer: &Arc<Vec<u8>, Global>, alloc: Global) -> Result<Symbols, AllocError> {
+    let mut places = Vec::new(alloc);
+    for (start, value) in [(0, 1), (5, 2), (0, 3)] {
+        places.extend_from_slice(&[SymbolPlace { start, value }])?;
     }
-    Symbols::from_vec(symbols)
+    Symbols::at_places(buffer, places)
 }
 
 /// Two segments that adjoin, one of code and one that may be written, with two bytes of any content.
@@ -31,16 +30,17 @@ fn image(alloc: Global) -> Result<Image, AllocError> {
     let mut segments = Items::new(alloc);
     segments.push(segment(alloc, 0x1000, &[1, 2, 3], PF_R | PF_X)?)?;
     segments.push(segment(alloc, 0x1003, &[4, 5], PF_R | PF_W)?)?;
+    let buffer = Arc::new(alloc, Vec::from_slice(alloc, NAMES)?)?;
     let mut externs = Items::new(alloc);
     externs.push(Extern {
-        name: name(alloc, b"puts")?,
+        name: Name::new(&buffer, 10)?,
     })?;
     let mut any_bytes = Spans::new(alloc);
     any_bytes.set(alloc, 0x1002, 0x1004, true)?;
     Ok(Image {
         segments,
         externs,
-        symbols: symbols(alloc)?,
+        symbols: symbols(&buffer, alloc)?,
         any_bytes,
         words: Items::new(alloc),
         entry: 0x1000,
@@ -93,14 +93,25 @@ fn spans_are_cut_and_joined(rt: HostRuntime) {
 }
 
 #[test]
-fn names_share_a_buffer(rt: HostRuntime) {
+fn names_end_at_a_nul(rt: HostRuntime) {
     let alloc = rt.alloc();
-    let text = Vec::from_slice(alloc, b"printf").expect(&rt, "memory");
-    let buffer = std::sync::Arc::new(alloc, text).expect(&rt, "memory");
-    let tail = Name::within(&buffer, 5, 6, hash_before(b'f', EMPTY_HASH)).expect(&rt, "memory");
-    let whole = Name::within(&buffer, 0, 6, hash_of(b"printf")).expect(&rt, "memory");
-    assert_eq!(rt; tail.as_slice(), b"f".as_slice());
-    assert_eq!(rt; whole.as_slice(), b"printf".as_slice());
+    let text = Vec::from_slice(alloc, NAMES).expect(&rt, "memory");
+    let buffer = Arc::new(alloc, text).expect(&rt, "memory");
+    for (start, name) in [(0, "main"), (4, ""), (12, "ts"), (99, "")] {
+        let found = Name::new(&buffer, start).expect(&rt, "memory");
+        assert!(rt; found.is(name.as_bytes()));
+        assert!(rt; !found.is(b"mai") && !found.is(b"main\0init"));
+    }
+}
+
+#[test]
+fn a_clone_is_the_same_image(rt: HostRuntime) {
+    let image = image(rt.alloc()).expect(&rt, "memory");
+    let clone = image.clone().expect(&rt, "memory");
+    assert_eq!(rt; clone.byte_at(0x1000), Some(1));
+    assert_eq!(rt; clone.byte_at(0x1002), None);
+    assert_eq!(rt; clone.symbol(b"init"), Some(2));
+    assert_eq!(rt; clone.extern_at(0xF000_0000), Some(0));
 }
 
 #[test]

@@ -45,7 +45,7 @@ fn image(alloc: Global, parts: &[Part], any: Option<u32>) -> Result<Image, Alloc
     Ok(Image {
         segments,
         externs: Items::new(alloc),
-        symbols: Symbols::new(alloc),
+        symbols: Symbols::new(alloc)?,
         any_bytes,
         words: Items::new(alloc),
         entry: ENTRY,

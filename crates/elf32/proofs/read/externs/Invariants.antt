@@ -1,7 +1,8 @@
 use Rattle.std.proofs.Common.{◌≡◌, map, take}
+use Rattle.std.specs.Arc.{arc_value}
 use Rattle.image_map.specs.declared.image.Extern.{Extern}
-use Rattle.elf32.specs.Loading.{extern_name}
+use Rattle.image_map.specs.Texts.{text_at}
 use Rattle.elf32.proofs.read.externs.Given as goal
 
-abbrev pub invariant-loop-id : goal.invariant-loop-id
-invariant-loop-id l = map (λ (e : Extern). e.name) l.externs.items ≡ map (extern_name l.bytes l.sections) (take l.id-index l.ids)
+abbrev pub invariant-loop-start : goal.invariant-loop-start
+invariant-loop-start l = map (λ (e : Extern). e.name) l.externs.items ≡ map (text_at (arc_value l.buffer).items) (take l.start-index l.starts)
