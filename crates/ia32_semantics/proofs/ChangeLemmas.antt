@@ -17,7 +17,7 @@ use Rattle.ia32_semantics.specs.declared.flags.FlagOut.{FlagOut}
 use Rattle.ia32_semantics.specs.declared.flags.FlagOut.TheVariants as out
 use Rattle.ia32_semantics.specs.State.{State, Location, InRegister, InFlag}
 use Rattle.ia32_semantics.specs.Effects.{Effect, Whole, Word, Low, High, sets, turns, stores, copies, effect_takes, effects_write, effects_take, effect_writes}
-use Rattle.ia32_semantics.specs.Operands.{address, part_of, store, store_to, is_set, any_flag, any_flags, flag_effect, flag_effects}
+use Rattle.ia32_semantics.specs.Operands.{address, part_of, store, store_to, is_set, any_word, any_flag, any_flags, flag_effect, flag_effects}
 use Rattle.ia32_semantics.specs.Laws.{has_register}
 use Rattle.ia32_semantics.proofs.EffectLemmas.{or_true}
 use Rattle.ia32_semantics.proofs.ReadingLemmas.{or_left, or_right}
@@ -158,7 +158,7 @@ flags_change f g drawn =
     }
 
 flag_drawn : (s : State) (R : Location → Bool) (f : FlagOut) → Within s R (IsDrawn f) (any_flag f)
-unfolding any_flag
+unfolding any_flag any_word
 flag_drawn s R out.Kept = within_gives s R (IsDrawn out.Kept) out.Kept refl
 flag_drawn s R (out.Set v) = within_gives s R (IsDrawn (out.Set v)) (out.Set v) (v, refl)
 flag_drawn s R out.Undefined = within_choice s R (IsDrawn out.Undefined) _ (λ word. within_gives s R (IsDrawn out.Undefined) (out.Set (is_set word)) (is_set word, refl))

@@ -189,39 +189,39 @@ rep_none = refl
 
 -- idiv: -7 by 2 is -3 with the remainder -1
 idiv_quotient : register_after op.Idiv (one D32 (reg Ecx)) minus_seven (0 ∷ 0 ∷ 0 ∷ 0 ∷ 0 ∷ []) 0 ≡ Some 0xFFFFFFFD
-unfolding row any_flags any_flag division_flags value_of value dividend_halves whole_register quotient_or_fault division signed_division division_of_sizes dividend magnitude quotient_fits signed_as sign with_part
+unfolding row any_flags any_flag any_word division_flags value_of value dividend_halves whole_register quotient_or_fault division signed_division division_of_sizes dividend magnitude quotient_fits signed_as sign with_part
 idiv_quotient = refl
 
 idiv_remainder : register_after op.Idiv (one D32 (reg Ecx)) minus_seven (0 ∷ 0 ∷ 0 ∷ 0 ∷ 0 ∷ []) 2 ≡ Some 0xFFFFFFFF
-unfolding row any_flags any_flag division_flags value_of value dividend_halves whole_register quotient_or_fault division signed_division division_of_sizes dividend magnitude quotient_fits signed_as sign with_part
+unfolding row any_flags any_flag any_word division_flags value_of value dividend_halves whole_register quotient_or_fault division signed_division division_of_sizes dividend magnitude quotient_fits signed_as sign with_part
 idiv_remainder = refl
 
 -- a zero divisor is a fault
 div_by_zero : row_outcome op.Div (one D32 (reg Esi)) plain (0 ∷ 0 ∷ 0 ∷ 0 ∷ 0 ∷ []) ≡ None
-unfolding row any_flags any_flag division_flags value_of value dividend_halves whole_register quotient_or_fault division unsigned_division dividend
+unfolding row any_flags any_flag any_word division_flags value_of value dividend_halves whole_register quotient_or_fault division unsigned_division dividend
 div_by_zero = refl
 
 -- shl bl, 9: CF and OF take a word each
 shl_undefined : flag_after op.Shl (two B8 (reg Ebx) (operand.Imm 9)) plain (0x10000 ∷ 0xFFFEFFFF ∷ []) 0 ≡ Some true
-unfolding row value_of value any_flags any_flag shift_flags shift_flags_by left_flags shifted_left shift_value shift_by store_to store result_flags sign has_even_parity ones
+unfolding row value_of value any_flags any_flag any_word shift_flags shift_flags_by left_flags shifted_left shift_value shift_by store_to store result_flags sign has_even_parity ones
 shl_undefined = refl
 
 shl_undefined_overflow : flag_after op.Shl (two B8 (reg Ebx) (operand.Imm 9)) plain (0x10000 ∷ 0xFFFEFFFF ∷ []) 4 ≡ Some false
-unfolding row value_of value any_flags any_flag shift_flags shift_flags_by left_flags shifted_left shift_value shift_by store_to store result_flags sign has_even_parity ones
+unfolding row value_of value any_flags any_flag any_word shift_flags shift_flags_by left_flags shifted_left shift_value shift_by store_to store result_flags sign has_even_parity ones
 shl_undefined_overflow = refl
 
 -- ror cl-wise by 33 turns by 1
 ror_by_cl : register_after op.Ror (two D32 (reg Eax) (reg Ecx)) by_thirty_three [] 0 ≡ Some 0x80000000
-unfolding row value_of value any_flags any_flag shift_flags shift_flags_by rotated_right_flags rotated_right shift_value shift_by store_to store kept_flags low_bit second_bit sign with_part
+unfolding row value_of value any_flags any_flag any_word shift_flags shift_flags_by rotated_right_flags rotated_right shift_value shift_by store_to store kept_flags low_bit second_bit sign with_part
 ror_by_cl = refl
 
 -- mul at 16 bits leaves the upper halves of EAX and EDX
 mul_words : register_after op.Mul (one W16 (reg Ecx)) words_full (0 ∷ 0 ∷ 0 ∷ []) 0 ≡ Some 0xAAAA0001
-unfolding row any_flags any_flag whole_register value_of value product_low product extended product_flags product_spills with_part
+unfolding row any_flags any_flag any_word whole_register value_of value product_low product extended product_flags product_spills with_part
 mul_words = refl
 
 mul_words_high : register_after op.Mul (one W16 (reg Ecx)) words_full (0 ∷ 0 ∷ 0 ∷ []) 2 ≡ Some 0xBBBBFFFE
-unfolding row any_flags any_flag whole_register value_of value product_low product_high product extended product_flags product_spills with_part
+unfolding row any_flags any_flag any_word whole_register value_of value product_low product_high product extended product_flags product_spills with_part
 mul_words_high = refl
 
 -- movsx from 8 bits at 32 and at 16, and from 16 at 32

@@ -1,5 +1,5 @@
 -- Each row asks only for the registers and flags of its tables, and writes those.
-use Rattle.std.proofs.Common.{◌≡◌, ℕ, ◌+◌, ◌/◌, List, [], ◌∷◌, ◌++◌, refl, sym, ap, ◌∙◌}
+use Rattle.std.proofs.Common.{◌≡◌, ℕ, ◌+◌, ◌/◌, List, [], ◌∷◌, ◌++◌, refl, sym, ap, ◌∙◌, ◌%◌, ◌^◌}
 use Rattle.std.specs.Prelude.{Bool, true, false, ◌||◌, ◌==◌, if◌then◌else◌, Option, Some, None}
 use Rattle.std.proofs.lemmas.List.Folds.{list_any-append}
 use Rattle.ia32_types.specs.declared.Reg.{Reg}
@@ -244,7 +244,7 @@ module _ (s : State) (reads : List Reg) (asked : List Flag) (x y : Bool) where
   raised_within width (Some (operand.Imm n)) all = all
   raised_within width (Some (operand.Mem m)) all = by_base (is_esp m.base)
     where
-      by_base : (b : Bool) → HasAll reads (places.place_of width (if b then Some (operand.Mem (record m { disp = m.disp + 4 })) else Some (operand.Mem m)))
+      by_base : (b : Bool) → HasAll reads (places.place_of width (if b then Some (operand.Mem (record m { disp = (m.disp + 4) % 2 ^ 32 })) else Some (operand.Mem m)))
       by_base true = all
       by_base false = all
 
@@ -255,7 +255,7 @@ module _ (s : State) (reads : List Reg) (asked : List Flag) (x y : Bool) where
   raised_target (Some (operand.Imm k)) n = refl
   raised_target (Some (operand.Mem m)) n = by_base (is_esp m.base)
     where
-      by_base : (b : Bool) → has_register (places.target_of (if b then Some (operand.Mem (record m { disp = m.disp + 4 })) else Some (operand.Mem m))) n ≡ false
+      by_base : (b : Bool) → has_register (places.target_of (if b then Some (operand.Mem (record m { disp = (m.disp + 4) % 2 ^ 32 })) else Some (operand.Mem m))) n ≡ false
       by_base true = refl
       by_base false = refl
 

@@ -8,7 +8,7 @@ use Rattle.ia32_semantics.specs.Reading.{Reading, gives, faults, byte, ◌>>=◌
 use Rattle.ia32_semantics.specs.Effects.{Effect, Whole, sets, stores}
 use Rattle.ia32_semantics.specs.Outcome.{Outcome, going}
 use Rattle.ia32_semantics.specs.Operands.{whole_register, any_word, stored_word, any_flags, flag_effects}
-use Rattle.ia32_semantics.specs.Rows.{returning}
+use Rattle.ia32_semantics.specs.Rows.{returning, risen}
 
 -- -- Arguments
 
@@ -55,7 +55,7 @@ any_words (suc n) = do
 
 -- returns with these results
 abbrev pub answered : Results → ℕ → ℕ → Outcome
-answered r sp place = returning (result_effects r) (sp + 4) place
+answered r sp place = returning (result_effects r) (risen sp 4) place
 
 -- n arguments are read
 abbrev pub pure : ℕ → Reading Outcome
@@ -112,7 +112,7 @@ filler buffer length = do
   read ← arguments sp (max buffer length)
   bytes ← any_prefix (argument read length)
   place ← number_over (argument read buffer) bytes 4 sp
-  gives (returning (stores (argument read buffer) bytes ∷ result_effects r) (sp + 4) place)
+  gives (returning (stores (argument read buffer) bytes ∷ result_effects r) (risen sp 4) place)
 
 -- the extern of this kind at an address
 unfoldable pub extern_row : ℕ → Kind → Reading Outcome

@@ -118,7 +118,7 @@ is_esp None = false
 is_esp (Some r) = is_same_reg r Esp
 
 abbrev pub raised : Option Operand → Option Operand
-raised (Some (operand.Mem m)) = if is_esp m.base then Some (operand.Mem (record m { disp = m.disp + 4 })) else Some (operand.Mem m)
+raised (Some (operand.Mem m)) = if is_esp m.base then Some (operand.Mem (record m { disp = (m.disp + 4) % 2 ^ 32 })) else Some (operand.Mem m)
 raised other = other
 
 -- -- Flags
@@ -130,7 +130,7 @@ is_set word = word / 65536 % 2 == 1
 unfoldable pub any_flag : FlagOut → Reading FlagOut
 any_flag out.Kept = gives out.Kept
 any_flag (out.Set v) = gives (out.Set v)
-any_flag out.Undefined = choice (λ word. gives (out.Set (is_set word)))
+any_flag out.Undefined = any_word >>= (λ word. gives (out.Set (is_set word)))
 
 -- each undefined flag takes a word of choice
 unfoldable pub any_flags : FlagsOut → Reading FlagsOut

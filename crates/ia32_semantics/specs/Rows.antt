@@ -190,6 +190,10 @@ chosen c i = do
 abbrev pub pushed_at : ℕ → ℕ
 pushed_at sp = (sp + 2 ^ 32 - 4) % 2 ^ 32
 
+-- some bytes higher
+abbrev pub risen : ℕ → ℕ → ℕ
+risen sp n = (sp + n) % 2 ^ 32
+
 -- a word put on the stack
 abbrev pub push_effects : ℕ → ℕ → List Effect
 push_effects sp v = sets Whole 4 (pushed_at sp) ∷ stores (pushed_at sp) (number_bytes 4 v) ∷ []
@@ -206,13 +210,13 @@ popped i = do
   sp ← whole_register 4
   v ← stored_word sp
   stored ← store_to i.width (raised i.dst) v
-  goes_on i (sets Whole 4 (sp + 4) ∷ stored)
+  goes_on i (sets Whole 4 (risen sp 4) ∷ stored)
 
 abbrev pub left : Instr → Reading Outcome
 left i = do
   bp ← whole_register 5
   v ← stored_word bp
-  goes_on i (sets Whole 4 (bp + 4) ∷ sets Whole 5 v ∷ [])
+  goes_on i (sets Whole 4 (risen bp 4) ∷ sets Whole 5 v ∷ [])
 
 -- -- Control
 
@@ -230,7 +234,7 @@ called i = do
 
 -- ends the newest activation with this ESP, and goes to a place
 abbrev pub returning : List Effect → ℕ → ℕ → Outcome
-returning effects sp place = record (going (effects ++ (sets Whole 4 sp ∷ [])) place) { calls = leaves; forgets = Some (sp % 2 ^ 32) }
+returning effects sp place = record (going (effects ++ (sets Whole 4 sp ∷ [])) place) { calls = leaves; forgets = Some sp }
 
 -- the number of an operand that is one
 unfoldable pub immediate : Option Operand → Reading ℕ
@@ -247,7 +251,7 @@ returned i = do
   sp ← whole_register 4
   place ← stored_word sp
   extra ← extra_bytes i.dst
-  gives (returning [] (sp + 4 + extra) place)
+  gives (returning [] (risen sp (4 + extra)) place)
 
 abbrev pub jumped : Instr → Reading Outcome
 jumped i = value_of i.width i.dst >>= (λ target. gives (going [] target))
