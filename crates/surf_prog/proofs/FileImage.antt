@@ -1,6 +1,7 @@
 -- A file has one image, as far as its addresses show: images of one file have the same entry, the same code and the same bytes.
 use Rattle.std.proofs.Common.{◌≡◌, ℕ, zero, suc, ◌+◌, ◌^◌, ◌<◌, Bool, true, false, cond, List, [], ◌∷◌, Option, Some, None, Result, Ok, Err, refl, sym, ◌∙◌, ap, arith}
-use Rattle.std.specs.Prelude.{IfOk, bit_and, ◌==◌}
+use Rattle.std.specs.Prelude.{IfOk, MatchOption, bit_and, ◌==◌}
+use Rattle.std.proofs.lemmas.Bool.{false≢true}
 use Rattle.std.specs.Option.{option_map_or}
 use Rattle.image_map.specs.declared.image.Segment.{Segment}
 use Rattle.image_map.specs.declared.image.Image.{Image}
@@ -14,8 +15,12 @@ use Rattle.elf32.specs.Relocating.{Relocated}
 use Rattle.elf32.specs.Loading.{outcome, error_of, wrong_relocation, failure, Shows, Loads}
 use Rattle.elf32.proofs.Whole.{shown_image}
 use Rattle.surf_prog.specs.Fetch.{code_byte, begun_by, code_run}
+use Rattle.command_words.specs.declared.line.Entry.{Entry}
+use Rattle.command_words.specs.declared.line.Entry.TheVariants as entries
 use Rattle.surf_prog.specs.Code.{most_code, code_of, HoldsCode}
+use Rattle.surf_prog.specs.Entry.{entry_place, Enters, LacksEntry}
 use Rattle.surf_prog.proofs.FetchLaws.{held_code}
+use Rattle.surf_prog.proofs.SegmentLaws.{flagged_below}
 
 -- -- A file with an image passes each check
 
@@ -68,8 +73,11 @@ one_state file i j p q =
 pub same_entry : (file : List ℕ) (i j : Image) → Loads file i → Loads file j → i.entry ≡ j.entry
 same_entry file i j p q = (shown file i p).shows.entry ∙ sym (shown file j q).shows.entry
 
-pub entry_below : (file : List ℕ) (i : Image) → Loads file i → i.entry < 2 ^ 32
-entry_below file i p = let e = (shown file i p).shows.entry in omega (arith, e)
+-- symbols have one value
+pub same_place : (file : List ℕ) (i j : Image) → Loads file i → Loads file j → (entry : Option Entry) → entry_place i entry ≡ entry_place j entry
+same_place file i j p q None = ap Some (same_entry file i j p q)
+same_place file i j p q (Some (entries.Address at)) = refl
+same_place file i j p q (Some (entries.Symbol name)) = (shown file i p).shows.symbols name ∙ sym ((shown file j q).shows.symbols name)
 
 -- whether an address lies in a segment with a flag, told by where segments stand
 abbrev in_shapes : List Shape → ℕ → ℕ → Bool
@@ -103,10 +111,37 @@ unfolding code_run
 same_run file i j p q a zero = refl
 same_run file i j p q a (suc n) = let byte = same_code_byte file i j p q a in let rest = same_run file i j p q (a + 1) n in λ k. begun_by (byte k) (rest k)
 
--- the code from the entry on
-pub same_code_of : (file : List ℕ) (i j : Image) → Loads file i → Loads file j → code_of i i.entry ≡ code_of j j.entry
-same_code_of file i j p q = same_run file i j p q i.entry most_code ∙ ap (λ e. code_run j e most_code) (same_entry file i j p q)
+-- the code from a place on
+pub same_code_of : (file : List ℕ) (i j : Image) → Loads file i → Loads file j → (place : ℕ) → code_of i place ≡ code_of j place
+same_code_of file i j p q place = same_run file i j p q place most_code
 
--- the image has it there
-pub entered_code : (file : List ℕ) (i : Image) → Loads file i → HoldsCode i i.entry (code_of i i.entry)
-entered_code file i p = held_code i i.entry most_code (code_of i i.entry) (entry_below file i p) refl (loaded_image file i p)
+-- the image has it where it is entered
+pub entered_code : (file : List ℕ) (entry : Option Entry) (i : Image) (place : ℕ) → Enters file entry i place → HoldsCode i place (code_of i place)
+entered_code file entry i place entered =
+    let image = loaded_image file i entered.loads in
+    let below = flagged_below i.segments 1 place image.segments entered.enters in
+    held_code i place most_code (code_of i place) (omega arith) refl image
+
+-- each image is entered at one place
+pub one_place : (file : List ℕ) (entry : Option Entry) (i j : Image) (a b : ℕ) → Enters file entry i a → Enters file entry j b → a ≡ b
+one_place file entry i j a b p q =
+    let same : ◌≡◌ {A = Option ℕ} (Some a) (Some b) = sym p.finds ∙ same_place file i j p.loads q.loads entry ∙ q.finds in
+    cc
+
+-- where one image is entered in code, another is that is entered there
+pub entered_too : (file : List ℕ) (entry : Option Entry) (i j : Image) (a b : ℕ) → Enters file entry i a → Loads file j → entry_place j entry ≡ Some b → Enters file entry j b
+entered_too file entry i j a b p loads finds =
+    let same : ◌≡◌ {A = Option ℕ} (Some a) (Some b) = sym p.finds ∙ same_place file i j p.loads loads entry ∙ finds in
+    let place : a ≡ b = cc in
+    record { loads = loads; finds = finds; enters = ap (is_code j) (sym place) ∙ sym (same_code file i j p.loads loads a) ∙ p.enters }
+
+-- it is entered in code by each image, or by none
+place_lacks : (image : Image) (found : Option ℕ) (place : ℕ) → found ≡ Some place → is_code image place ≡ true → MatchOption found (Unit {0}) (λ a. is_code image a ≡ false) → ⊥
+place_lacks image None place is code lacks = absurd (cc)
+place_lacks image (Some a) place is code lacks = let same : a ≡ place = cc in false≢true (sym lacks ∙ ap (is_code image) same ∙ code)
+
+pub not_lacking : (file : List ℕ) (entry : Option Entry) (image : Image) (place : ℕ) → Enters file entry image place → ¬ LacksEntry file entry
+not_lacking file entry image place entered lacks =
+    let found : entry_place lacks.0 entry ≡ Some place = sym (same_place file image lacks.0 entered.loads lacks.1 entry) ∙ entered.finds in
+    let code : is_code lacks.0 place ≡ true = sym (same_code file image lacks.0 entered.loads lacks.1 place) ∙ entered.enters in
+    place_lacks lacks.0 (entry_place lacks.0 entry) place found code lacks.2

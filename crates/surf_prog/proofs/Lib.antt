@@ -9,7 +9,6 @@ pub mod SegmentLaws
 pub mod FetchLaws
 pub mod ListingLaws
 pub mod FileImage
-pub mod WordLaws
 pub mod TextLaws
 pub mod RefusalLaws
 pub mod RequestLaws

@@ -1,5 +1,5 @@
 -- Laws of the lines of refusals: pieces that are written one after another, up to a fault.
-use Rattle.std.proofs.Common.{◌≡◌, inl, inr, ℕ, List, [], ◌∷◌, ◌++◌, Option, Result, Ok, Err, refl, sym, ◌∙◌, ap, subst, append_assoc}
+use Rattle.std.proofs.Common.{◌≡◌, inl, inr, ℕ, List, [], ◌∷◌, ◌++◌, Option, Some, Result, Ok, Err, refl, sym, ◌∙◌, ap, subst, append_assoc, arith}
 use Rattle.std.specs.Result.{OnOk, OnErr}
 use Rattle.std.specs.Fmt.{decimal}
 use Rattle.std.proofs.Common.{append-nil}
@@ -65,3 +65,16 @@ told_of told given variant line is same p = subst (λ (e : Refusal). told (line_
 -- what was told is the line of the failing check
 pub cause_told : (told : List ℕ → Type 0) (given variant : ElfError) → given ≡ variant → told (image_line variant) → told (image_line given)
 cause_told told given variant is p = subst (λ (e : ElfError). told (image_line e)) (sym is) p
+
+-- a line in memory of which no piece was refused is whole
+pub whole_line : (start text line : List ℕ) (before faults : ℕ) → start ≡ [] → before ≡ 0 → faults ≡ 0 → TellsLine (Some start) (Some text) before faults line → text ≡ line
+whole_line start text line before faults empty none calm (inl whole) =
+    let same : ◌≡◌ {A = Option (List ℕ)} (Some text) (Some (start ++ line)) = whole in
+    let from : text ≡ start ++ line = cc in
+    from ∙ ap (λ (l : List ℕ). l ++ line) empty
+whole_line start text line before faults empty none calm (inr part) = let rose = part.1 in absurd (omega arith)
+
+-- one call tells the whole line, or some beginning of it
+pub told_at_once : {E : Type 0} (r : Result (Unit {0}) E) (old new : Option (List ℕ)) (before now : ℕ) (text line : List ℕ) → text ≡ line
+    → OnOk r (Appends old new text) → OnErr r (AppendsPart old new text) → OnErr r (Rose before now) → TellsLine old new before now line
+told_at_once r old new before now text line is whole part rose = subst (TellsLine old new before now) is (tells r old new before now text whole part rose)

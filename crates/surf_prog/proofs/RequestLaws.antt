@@ -21,87 +21,87 @@ use Rattle.surf_prog.specs.declared.refusal.Refusal.TheVariants as refusal
 use Rattle.surf_prog.specs.StraightCode.{IsStraight}
 use Rattle.surf_prog.specs.Code.{code_of}
 use Rattle.surf_prog.specs.Listing.{IsTheListing}
-use Rattle.surf_prog.specs.Once.{image_limit, Enters, HasCode, HasNode, HasList, first_place, IsListReply, IsReply, HasReply, HasNoImage, HasNoEntry, IsUnsupported, IsAbsent, TellsLine, WasRead, ForAsked, AsksNothing, WritesReply, IsStatus, WritesNothing, ErrorLines, shelf_line, too_long_line}
-use Rattle.surf_prog.specs.Words.{Asks}
+use Rattle.surf_prog.specs.Once.{image_limit, HasCode, HasNode, HasList, first_place, IsListReply, IsReply, HasReply, HasNoImage, HasNoEntry, IsUnsupported, IsAbsent, TellsLine, WasRead, ForAsked, AsksNothing, WritesReply, IsStatus, WritesNothing, ErrorLines, shelf_line, too_long_line}
+use Rattle.command_words.specs.declared.line.Entry.{Entry}
+use Rattle.surf_prog.specs.declared.words.Request.{Request}
+use Rattle.surf_prog.specs.Entry.{Enters}
+use Rattle.surf_prog.specs.Words.{Asks, entry_of}
 use Rattle.surf_prog.specs.Answer.{Asked, OfFile, Replies, Answers, refusal_of, line_of, status_of}
 use Rattle.surf_prog.proofs.Straight.{one_list}
 use Rattle.surf_prog.proofs.StraightGraph.{has_from, from_has}
 use Rattle.surf_prog.proofs.StraightStops.{straight_or_stops}
-use Rattle.surf_prog.proofs.FileImage.{same_entry, same_code, same_code_of}
-use Rattle.surf_prog.proofs.WordLaws.{one_request}
+use Rattle.surf_prog.proofs.FileImage.{same_code, same_code_of, one_place, not_lacking}
 
 -- -- What a file answers: one thing at most
 
--- the code of a file at its entry, by whatever image
-moved_straight : (file : List ℕ) (i j : Image) (instrs : List Instr) → Loads file i → Loads file j → IsStraight i.entry (code_of i i.entry) instrs → IsStraight j.entry (code_of j j.entry) instrs
-moved_straight file i j instrs p q straight =
-    let code = subst (λ c. IsStraight i.entry c instrs) (same_code_of file i j p q) straight in
-    subst (λ e. IsStraight e (code_of j j.entry) instrs) (same_entry file i j p q) code
+-- the code of a file where it is entered, by whatever image
+moved_straight : (file : List ℕ) (entry : Option Entry) (i j : Image) (a b : ℕ) (instrs : List Instr) → Enters file entry i a → Enters file entry j b → IsStraight a (code_of i a) instrs → IsStraight b (code_of j b) instrs
+moved_straight file entry i j a b instrs p q straight =
+    let code = subst (λ c. IsStraight a c instrs) (same_code_of file i j p.loads q.loads a) straight in
+    subst (λ e. IsStraight e (code_of j e) instrs) (one_place file entry i j a b p q) code
 
-pub one_code : (file : List ℕ) (is js : List Instr) → HasCode file is → HasCode file js → is ≡ js
-one_code file is js p q =
-    let straight = moved_straight file p.image q.image is p.entered.loads q.entered.loads p.straight in
-    one_list is js q.image.entry (code_of q.image q.image.entry) straight.lists q.straight.lists
+pub one_code : (file : List ℕ) (entry : Option Entry) (is js : List Instr) → HasCode file entry is → HasCode file entry js → is ≡ js
+one_code file entry is js p q =
+    let straight = moved_straight file entry p.image q.image p.place q.place is p.entered q.entered p.straight in
+    one_list is js q.place (code_of q.image q.place) straight.lists q.straight.lists
 
 -- an image, where there is one, is no missing one
 pub loads_passes : (file : List ℕ) (image : Image) (cause : ElfError) → Loads file image → ¬ HasNoImage file cause
 loads_passes file image cause loads none = let no : ◌≡◌ {A = Option ElfError} None (Some cause) = sym loads.passes ∙ none in absurd (cc)
 
--- it is entered in code by each image, or by none
-pub enters_once : (file : List ℕ) (image : Image) → Enters file image → ¬ HasNoEntry file
-enters_once file image entered none =
-    let code : is_code image image.entry ≡ is_code none.0 none.0.entry = same_code file image none.0 entered.loads none.1 image.entry ∙ ap (is_code none.0) (same_entry file image none.0 entered.loads none.1) in
-    false≢true (sym none.2 ∙ sym code ∙ entered.enters)
-
 -- what has a reply, is absent or isn't supported has an image that is entered in code
-pub record Entered (file : List ℕ) : Type 0 where
+pub record Entered (file : List ℕ) (asked : Task) : Type 0 where
   pub image : Image
-  pub entered : Enters file image
+  pub place : ℕ
+  pub entered : Enters file (entry_of asked) image place
 
-pub reply_enters : (file : List ℕ) (asked : Task) → HasReply file asked → Entered file
-reply_enters file (task.Slice at) has = record { image = has.1.image; entered = has.1.entered }
-reply_enters file (task.List from steps) has = record { image = has.image; entered = has.entered }
+pub enters_once : (file : List ℕ) (asked : Task) → Entered file asked → ¬ HasNoEntry file asked
+enters_once file asked there = not_lacking file (entry_of asked) there.image there.place there.entered
 
-pub absent_enters : (file : List ℕ) (asked : Task) (at : ℕ) → IsAbsent file asked at → Entered file
-absent_enters file (task.Slice place) at absent = record { image = absent.1.1.image; entered = absent.1.1.entered }
-absent_enters file (task.List from steps) at absent = record { image = absent.1.0; entered = absent.1.1 }
+pub reply_enters : (file : List ℕ) (asked : Task) → HasReply file asked → Entered file asked
+reply_enters file (task.Slice entry at lane) has = record { image = has.1.image; place = has.1.place; entered = has.1.entered }
+reply_enters file (task.List entry from steps) has = record { image = has.image; place = has.place; entered = has.entered }
 
-pub unsupported_enters : (file : List ℕ) (asked : Task) (at : ℕ) → IsUnsupported file asked at → Entered file
-unsupported_enters file (task.Slice place) at unsupported = record { image = unsupported.0; entered = unsupported.1 }
-unsupported_enters file (task.List from steps) at unsupported = absurd unsupported
+pub absent_enters : (file : List ℕ) (asked : Task) (at : ℕ) → IsAbsent file asked at → Entered file asked
+absent_enters file (task.Slice entry criterion lane) at absent = record { image = absent.1.1.image; place = absent.1.1.place; entered = absent.1.1.entered }
+absent_enters file (task.List entry from steps) at absent = record { image = absent.1.0; place = absent.1.1; entered = absent.1.2 }
 
-code_supported : (file : List ℕ) (instrs : List Instr) (place at : ℕ) → HasCode file instrs → ¬ IsUnsupported file (task.Slice place) at
-code_supported file instrs place at has unsupported =
-    straight_or_stops unsupported.0.entry (code_of unsupported.0 unsupported.0.entry) instrs at
-    (moved_straight file has.image unsupported.0 instrs has.entered.loads unsupported.1.loads has.straight) unsupported.2
+pub unsupported_enters : (file : List ℕ) (asked : Task) (at : ℕ) → IsUnsupported file asked at → Entered file asked
+unsupported_enters file (task.Slice entry criterion lane) at unsupported = record { image = unsupported.0; place = unsupported.1; entered = unsupported.2 }
+unsupported_enters file (task.List entry from steps) at unsupported = absurd unsupported
+
+code_supported : (file : List ℕ) (entry : Option Entry) (instrs : List Instr) (criterion lane at : ℕ) → HasCode file entry instrs → ¬ IsUnsupported file (task.Slice entry criterion lane) at
+code_supported file entry instrs criterion lane at has unsupported =
+    straight_or_stops unsupported.1 (code_of unsupported.0 unsupported.1) instrs at
+    (moved_straight file entry has.image unsupported.0 has.place unsupported.1 instrs has.entered unsupported.2 has.straight) unsupported.3
 
 pub absent_supported : (file : List ℕ) (asked : Task) (place at : ℕ) → IsAbsent file asked place → ¬ IsUnsupported file asked at
-absent_supported file (task.Slice criterion) place at absent = code_supported file absent.1.0 criterion at absent.1.1
-absent_supported file (task.List from steps) place at absent = λ unsupported. absurd unsupported
+absent_supported file (task.Slice entry criterion lane) place at absent = code_supported file entry absent.1.0 criterion lane at absent.1.1
+absent_supported file (task.List entry from steps) place at absent = λ unsupported. absurd unsupported
 
 pub reply_supported : (file : List ℕ) (asked : Task) (at : ℕ) → HasReply file asked → ¬ IsUnsupported file asked at
-reply_supported file (task.Slice criterion) at has = code_supported file has.0 criterion at has.1
-reply_supported file (task.List from steps) at has = λ unsupported. absurd unsupported
+reply_supported file (task.Slice entry criterion lane) at has = code_supported file entry has.0 criterion lane at has.1
+reply_supported file (task.List entry from steps) at has = λ unsupported. absurd unsupported
 
-list_present : (file : List ℕ) (from : Option ℕ) (place : ℕ) → HasList file from → from ≡ Some place → (image : Image) → Enters file image → is_code image place ≡ false → ⊥
-list_present file None place has is image entered none = absurd (cc)
-list_present file (Some at) place has is image entered none =
-    let same : at ≡ place = cc in
-    let code : is_code has.image at ≡ is_code image place = same_code file has.image image has.entered.loads entered.loads at ∙ ap (is_code image) same in
+list_present : (file : List ℕ) (entry : Option Entry) (from : Option ℕ) (absent : ℕ) → HasList file entry from → from ≡ Some absent → (image : Image) → Loads file image → is_code image absent ≡ false → ⊥
+list_present file entry None absent has is image loads none = absurd (cc)
+list_present file entry (Some at) absent has is image loads none =
+    let same : at ≡ absent = cc in
+    let code : is_code has.image at ≡ is_code image absent = same_code file has.image image has.entered.loads loads at ∙ ap (is_code image) same in
     false≢true (sym none ∙ sym code ∙ has.begins)
 
 pub reply_present : (file : List ℕ) (asked : Task) (place : ℕ) → HasReply file asked → ¬ IsAbsent file asked place
-reply_present file (task.Slice at) place has absent = absent.1.2 (subst (λ is. HasNode is at) (one_code file has.0 absent.1.0 has.1 absent.1.1) has.2)
-reply_present file (task.List from steps) place has absent = list_present file from place has absent.0 absent.1.0 absent.1.1 absent.1.2
+reply_present file (task.Slice entry at lane) place has absent = absent.1.2 (subst (λ is. HasNode is at) (one_code file entry has.0 absent.1.0 has.1 absent.1.1) has.2)
+reply_present file (task.List entry from steps) place has absent = list_present file entry from place has absent.0 absent.1.0 absent.1.2.loads absent.1.3
 
 has_reply : (file : List ℕ) (asked : Task) (text : List ℕ) → IsReply file asked text → HasReply file asked
-has_reply file (task.Slice at) text reply = (reply.instrs, reply.code, reply.criterion)
-has_reply file (task.List from steps) text reply = reply.there
+has_reply file (task.Slice entry at lane) text reply = (reply.instrs, reply.code, reply.criterion)
+has_reply file (task.List entry from steps) text reply = reply.there
 
 -- where the first place of a list isn't code, that place was named
-pub list_absent : (file : List ℕ) (image : Image) (from : Option ℕ) (steps place : ℕ) → Enters file image → place ≡ first_place image from → is_code image place ≡ false → IsAbsent file (task.List from steps) place
-list_absent file image None steps place entered is none = absurd (false≢true (sym none ∙ ap (is_code image) is ∙ entered.enters))
-list_absent file image (Some at) steps place entered is none = (ap Some (sym is), (image, entered, none))
+pub list_absent : (file : List ℕ) (entry : Option Entry) (image : Image) (place : ℕ) (from : Option ℕ) (steps absent : ℕ) → Enters file entry image place → absent ≡ first_place place from → is_code image absent ≡ false → IsAbsent file (task.List entry from steps) absent
+list_absent file entry image place None steps absent entered is none = absurd (false≢true (sym none ∙ ap (is_code image) is ∙ entered.enters))
+list_absent file entry image place (Some at) steps absent entered is none = (ap Some (sym is), (image, place, entered, none))
 
 -- an instruction stands at the address exactly where a node does
 record StandsAt (at : ℕ) (xs : List Instr) : Type 0 where
@@ -141,6 +141,16 @@ pub of_file : (o : Option (List ℕ)) (bytes : List ℕ) (P : List ℕ → Type 
 of_file None bytes P gives short p = tt
 of_file (Some file) bytes P gives short p = (subst (λ (l : List ℕ). length l ≤ image_limit) gives short, subst P gives p)
 
+-- words ask for something or nothing, and for one thing
+asks_something : (words : List (List ℕ)) (name : List ℕ) (asked : Task) → Asks words name asked → ¬ AsksNothing words
+asks_something words name asked asks none = let no : ◌≡◌ {A = Option Request} None (Some (record { name = name; task = asked })) = sym none ∙ asks in absurd (cc)
+
+one_request : (words : List (List ℕ)) (name other : List ℕ) (t u : Task) → Asks words name t → Asks words other u → (name ≡ other) × (t ≡ u)
+one_request words name other t u p q =
+    let same : ◌≡◌ {A = Option Request} (Some (record { name = name; task = t })) (Some (record { name = other; task = u })) = sym p ∙ q in
+    let requests : ◌≡◌ {A = Request} (record { name = name; task = t }) (record { name = other; task = u }) = cc in
+    (ap (λ (r : Request). r.name) requests, ap (λ (r : Request). r.task) requests)
+
 pub asked_fact : (words : List (List ℕ)) (P : List ℕ → Task → Type 0) → Asked words P → ForAsked words P
 asked_fact words P a name asked asks =
     let same = one_request words a.name name a.asked asked a.asks asks in
@@ -155,7 +165,7 @@ abbrev Facts : ℕ → List ℕ → Task → Type 0
 Facts status file asked =
     (length file ≤ image_limit)
     × ((status ≡ 4) ↔ ((cause : ElfError) × HasNoImage file cause))
-    × ((status ≡ 5) ↔ (HasNoEntry file ⊎ ((at : ℕ) × IsAbsent file asked at)))
+    × ((status ≡ 5) ↔ (HasNoEntry file asked ⊎ ((at : ℕ) × IsAbsent file asked at)))
     × ((status ≡ 9) ↔ ((at : ℕ) × IsUnsupported file asked at))
 
 replied : (status : ℕ) (file : List ℕ) (asked : Task) → status ≢ 4 → status ≢ 5 → status ≢ 9 → length file ≤ image_limit → HasReply file asked → Facts status file asked
@@ -163,7 +173,7 @@ replied status file asked not_four not_five not_nine short has =
     let there = reply_enters file asked has in (
       short,
       ((λ four. absurd (not_four four)), (λ none. absurd (loads_passes file there.image none.0 there.entered.loads none.1))),
-      ((λ five. absurd (not_five five)), (λ absent. absurd (⊎_elim (λ none. enters_once file there.image there.entered none) (λ place. reply_present file asked place.0 has place.1) absent))),
+      ((λ five. absurd (not_five five)), (λ absent. absurd (⊎_elim (λ none. enters_once file asked there none) (λ place. reply_present file asked place.0 has place.1) absent))),
       ((λ nine. absurd (not_nine nine)), (λ unsupported. absurd (reply_supported file asked unsupported.0 has unsupported.1))),
     )
 
@@ -175,12 +185,12 @@ no_image status file asked cause is short none = (
   ((λ nine. absurd (omega arith)), (λ unsupported. absurd (let there = unsupported_enters file asked unsupported.0 unsupported.1 in loads_passes file there.image cause there.entered.loads none))),
 )
 
-no_entry : (status : ℕ) (file : List ℕ) (asked : Task) → status ≡ 5 → length file ≤ image_limit → HasNoEntry file → Facts status file asked
+no_entry : (status : ℕ) (file : List ℕ) (asked : Task) → status ≡ 5 → length file ≤ image_limit → HasNoEntry file asked → Facts status file asked
 no_entry status file asked is short none = (
   short,
   ((λ four. absurd (omega arith)), (λ found. absurd (loads_passes file none.0 found.0 none.1 found.1))),
   ((λ five. inl none), (λ absent. is)),
-  ((λ nine. absurd (omega arith)), (λ unsupported. absurd (let there = unsupported_enters file asked unsupported.0 unsupported.1 in enters_once file there.image there.entered none))),
+  ((λ nine. absurd (omega arith)), (λ unsupported. absurd (let there = unsupported_enters file asked unsupported.0 unsupported.1 in enters_once file asked there none))),
 )
 
 absent_place : (status : ℕ) (file : List ℕ) (asked : Task) (at : ℕ) → status ≡ 5 → length file ≤ image_limit → IsAbsent file asked at → Facts status file asked
@@ -197,7 +207,7 @@ unsupported_place status file asked at is short unsupported =
     let there = unsupported_enters file asked at unsupported in (
       short,
       ((λ four. absurd (omega arith)), (λ found. absurd (loads_passes file there.image found.0 there.entered.loads found.1))),
-      ((λ five. absurd (omega arith)), (λ absent. absurd (⊎_elim (λ none. enters_once file there.image there.entered none) (λ place. absent_supported file asked place.0 at place.1 unsupported) absent))),
+      ((λ five. absurd (omega arith)), (λ absent. absurd (⊎_elim (λ none. enters_once file asked there none) (λ place. absent_supported file asked place.0 at place.1 unsupported) absent))),
       ((λ nine. (at, unsupported)), (λ found. is)),
     )
 
@@ -238,25 +248,37 @@ module _ (words : List (List ℕ)) (files : List ℕ → Option (List ℕ)) (bef
       if_told (files name) _ _ (λ file both. (fact.0, both.1, fact.2)) fact.1
   text_holds (Err e) status is a zero_is = absurd (not_zero e (sym is ∙ zero_is))
 
-  pub bad_words_hold : (r : Result (Unit {0}) Refusal) (status : ℕ) → status ≡ status_in r → Ended r → (status ≡ 2) ↔ AsksNothing words
-  bad_words_hold (Ok u) status is a = (λ two. absurd (omega arith), λ none. absurd (none a.name a.asked a.asks))
-  bad_words_hold (Err refusal.Words) status is a = (λ two. a.0, λ none. is)
-  bad_words_hold (Err (refusal.Shelf told)) status is a = (λ two. absurd (omega arith), λ none. absurd (none a.0.name a.0.asked a.0.asks))
-  bad_words_hold (Err (refusal.TooLong told)) status is a = (λ two. absurd (omega arith), λ none. absurd (none a.0.name a.0.asked a.0.asks))
-  bad_words_hold (Err (refusal.Image cause)) status is a = (λ two. absurd (omega arith), λ none. absurd (none a.0.name a.0.asked a.0.asks))
-  bad_words_hold (Err refusal.Entry) status is a = (λ two. absurd (omega arith), λ none. absurd (none a.0.name a.0.asked a.0.asks))
-  bad_words_hold (Err (refusal.Unsupported at)) status is a = (λ two. absurd (omega arith), λ none. absurd (none a.0.name a.0.asked a.0.asks))
-  bad_words_hold (Err (refusal.Absent at)) status is a = (λ two. absurd (omega arith), λ none. absurd (none a.0.name a.0.asked a.0.asks))
-  bad_words_hold (Err refusal.Output) status is a = (λ two. absurd (omega arith), λ none. absurd (none a.0.name a.0.asked a.0.asks))
-  bad_words_hold (Err refusal.Memory) status is a = (λ two. absurd (omega arith), λ none. absurd (none a.0.name a.0.asked a.0.asks))
+  pub bad_words_hold : (r : Result (Unit {0}) Refusal) (status : ℕ) → status ≡ status_in r → Ended r → status ≡ 2 → AsksNothing words
+  bad_words_hold (Ok u) status is a two = absurd (omega arith)
+  bad_words_hold (Err refusal.Words) status is a two = a.0
+  bad_words_hold (Err (refusal.Shelf told)) status is a two = absurd (omega arith)
+  bad_words_hold (Err (refusal.TooLong told)) status is a two = absurd (omega arith)
+  bad_words_hold (Err (refusal.Image cause)) status is a two = absurd (omega arith)
+  bad_words_hold (Err refusal.Entry) status is a two = absurd (omega arith)
+  bad_words_hold (Err (refusal.Unsupported at)) status is a two = absurd (omega arith)
+  bad_words_hold (Err (refusal.Absent at)) status is a two = absurd (omega arith)
+  bad_words_hold (Err refusal.Output) status is a two = absurd (omega arith)
+  bad_words_hold (Err refusal.Memory) status is a two = absurd (omega arith)
+
+  pub nothing_asked_holds : (r : Result (Unit {0}) Refusal) (status : ℕ) → status ≡ status_in r → Ended r → AsksNothing words → (status ≡ 2) ⊎ (status ≡ 7)
+  nothing_asked_holds (Ok u) status is a none = absurd (asks_something words a.name a.asked a.asks none)
+  nothing_asked_holds (Err refusal.Words) status is a none = inl is
+  nothing_asked_holds (Err (refusal.Shelf told)) status is a none = absurd (asks_something words a.0.name a.0.asked a.0.asks none)
+  nothing_asked_holds (Err (refusal.TooLong told)) status is a none = absurd (asks_something words a.0.name a.0.asked a.0.asks none)
+  nothing_asked_holds (Err (refusal.Image cause)) status is a none = absurd (asks_something words a.0.name a.0.asked a.0.asks none)
+  nothing_asked_holds (Err refusal.Entry) status is a none = absurd (asks_something words a.0.name a.0.asked a.0.asks none)
+  nothing_asked_holds (Err (refusal.Unsupported at)) status is a none = absurd (asks_something words a.0.name a.0.asked a.0.asks none)
+  nothing_asked_holds (Err (refusal.Absent at)) status is a none = absurd (asks_something words a.0.name a.0.asked a.0.asks none)
+  nothing_asked_holds (Err refusal.Output) status is a none = absurd (asks_something words a.0.name a.0.asked a.0.asks none)
+  nothing_asked_holds (Err refusal.Memory) status is a none = inr is
 
   pub shelf_holds : (e : Refusal) (status : ℕ) (tells : List ℕ → Type 0) → status ≡ status_of e → Ended (Err e) → tells (line_of e) → status ≡ 3
       → ForAsked words (λ name asked. (Rose (before name) (now name) × tells (shelf_line name)) ⊎ (IsLonger (files name) image_limit × tells (too_long_line name)))
   shelf_holds (refusal.Shelf told) status tells is a line three = λ name asked asks.
-      let fact = asked_fact words (λ name asked. (name ≡ told.now) × Rose (before name) (now name)) a.0 name asked asks in
+      let fact = asked_fact words (λ name asked. (name ≡ told) × Rose (before name) (now name)) a.0 name asked asks in
       inl (fact.1, subst (λ n. tells (shelf_line n)) (sym fact.0) line)
   shelf_holds (refusal.TooLong told) status tells is a line three = λ name asked asks.
-      let fact = asked_fact words (λ name asked. (name ≡ told.now) × IsLonger (files name) image_limit) a.0 name asked asks in
+      let fact = asked_fact words (λ name asked. (name ≡ told) × IsLonger (files name) image_limit) a.0 name asked asks in
       inr (fact.1, subst (λ n. tells (too_long_line n)) (sym fact.0) line)
   shelf_holds refusal.Words status tells is a line three = absurd (omega arith)
   shelf_holds (refusal.Image cause) status tells is a line three = absurd (omega arith)
@@ -278,7 +300,7 @@ module _ (words : List (List ℕ)) (files : List ℕ → Option (List ℕ)) (bef
       let fact = asked_fact words (λ name asked. OfFile (files name) (λ file. HasNoImage file cause)) a.0 name asked asks in
       if_told (files name) _ _ (λ file both. no_image status file asked cause is both.0 both.1) fact
   file_facts (Err refusal.Entry) status is a read = λ name asked asks.
-      let fact = asked_fact words (λ name asked. OfFile (files name) HasNoEntry) a.0 name asked asks in
+      let fact = asked_fact words (λ name asked. OfFile (files name) (λ file. HasNoEntry file asked)) a.0 name asked asks in
       if_told (files name) _ _ (λ file both. no_entry status file asked is both.0 both.1) fact
   file_facts (Err (refusal.Unsupported at)) status is a read = λ name asked asks.
       let fact = asked_fact words (λ name asked. OfFile (files name) (λ file. IsUnsupported file asked at)) a.0 name asked asks in
@@ -297,7 +319,7 @@ module _ (words : List (List ℕ)) (files : List ℕ → Option (List ℕ)) (bef
   pub image_holds : (r : Result (Unit {0}) Refusal) (status : ℕ) → status ≡ status_in r → Ended r → WasRead status → ForAsked words (λ name asked. IfSome (files name) (λ file. (status ≡ 4) ↔ ((cause : ElfError) × HasNoImage file cause)))
   image_holds r status is a read = λ name asked asks. if_told (files name) _ _ (λ file facts. facts.1) (file_facts r status is a read name asked asks)
 
-  pub absent_holds : (r : Result (Unit {0}) Refusal) (status : ℕ) → status ≡ status_in r → Ended r → WasRead status → ForAsked words (λ name asked. IfSome (files name) (λ file. (status ≡ 5) ↔ (HasNoEntry file ⊎ ((at : ℕ) × IsAbsent file asked at))))
+  pub absent_holds : (r : Result (Unit {0}) Refusal) (status : ℕ) → status ≡ status_in r → Ended r → WasRead status → ForAsked words (λ name asked. IfSome (files name) (λ file. (status ≡ 5) ↔ (HasNoEntry file asked ⊎ ((at : ℕ) × IsAbsent file asked at))))
   absent_holds r status is a read = λ name asked asks. if_told (files name) _ _ (λ file facts. facts.2) (file_facts r status is a read name asked asks)
 
   pub unsupported_holds : (r : Result (Unit {0}) Refusal) (status : ℕ) → status ≡ status_in r → Ended r → WasRead status → ForAsked words (λ name asked. IfSome (files name) (λ file. (status ≡ 9) ↔ ((at : ℕ) × IsUnsupported file asked at)))
@@ -337,7 +359,7 @@ module _ (words : List (List ℕ)) (files : List ℕ → Option (List ℕ)) (bef
   untouched_holds (Err (refusal.Unsupported at)) status is a = λ not_zero not_six. a.1
   untouched_holds (Err (refusal.Absent at)) status is a = λ not_zero not_six. a.1
   untouched_holds (Err refusal.Output) status is a = λ not_zero not_six. absurd (not_six is)
-  untouched_holds (Err refusal.Memory) status is a = λ not_zero not_six. a.1
+  untouched_holds (Err refusal.Memory) status is a = λ not_zero not_six. a
 
   longer : (o : Option (List ℕ)) (file : List ℕ) → o ≡ Some file → IsLonger o image_limit → image_limit < length file
   longer None file is long = absurd (cc)
@@ -350,19 +372,19 @@ module _ (words : List (List ℕ)) (files : List ℕ → Option (List ℕ)) (bef
   pub complete_holds : (r : Result (Unit {0}) Refusal) (status : ℕ) → status ≡ status_in r → Ended r
       → ForAsked words (λ name asked. IfSome (files name) (λ file. length file ≤ image_limit → HasReply file asked → ¬ Rose (before name) (now name) → ¬ Rose faults faults_now → (status ≡ 0) ⊎ (status ≡ 7)))
   complete_holds (Ok u) status is a = λ name asked asks. told_is (files name) _ (λ file told short has calm calm_out. inl is)
-  complete_holds (Err refusal.Words) status is a = λ name asked asks. absurd (a.0 name asked asks)
+  complete_holds (Err refusal.Words) status is a = λ name asked asks. absurd (asks_something words name asked asks a.0)
   complete_holds (Err (refusal.Shelf by)) status is a = λ name asked asks.
-      let fact = asked_fact words (λ name asked. (name ≡ by.now) × Rose (before name) (now name)) a.0 name asked asks in
+      let fact = asked_fact words (λ name asked. (name ≡ by) × Rose (before name) (now name)) a.0 name asked asks in
       told_is (files name) _ (λ file told short has calm calm_out. absurd (calm fact.1))
   complete_holds (Err (refusal.TooLong by)) status is a = λ name asked asks.
-      let fact = asked_fact words (λ name asked. (name ≡ by.now) × IsLonger (files name) image_limit) a.0 name asked asks in
+      let fact = asked_fact words (λ name asked. (name ≡ by) × IsLonger (files name) image_limit) a.0 name asked asks in
       told_is (files name) _ (λ file told short has calm calm_out. let long = longer (files name) file told fact.1 in absurd (omega arith))
   complete_holds (Err (refusal.Image cause)) status is a = λ name asked asks.
       let fact = asked_fact words (λ name asked. OfFile (files name) (λ file. HasNoImage file cause)) a.0 name asked asks in
       if_told (files name) _ _ (λ file both short has calm calm_out. let there = reply_enters file asked has in absurd (loads_passes file there.image cause there.entered.loads both.1)) fact
   complete_holds (Err refusal.Entry) status is a = λ name asked asks.
-      let fact = asked_fact words (λ name asked. OfFile (files name) HasNoEntry) a.0 name asked asks in
-      if_told (files name) _ _ (λ file both short has calm calm_out. let there = reply_enters file asked has in absurd (enters_once file there.image there.entered both.1)) fact
+      let fact = asked_fact words (λ name asked. OfFile (files name) (λ file. HasNoEntry file asked)) a.0 name asked asks in
+      if_told (files name) _ _ (λ file both short has calm calm_out. let there = reply_enters file asked has in absurd (enters_once file asked there both.1)) fact
   complete_holds (Err (refusal.Unsupported at)) status is a = λ name asked asks.
       let fact = asked_fact words (λ name asked. OfFile (files name) (λ file. IsUnsupported file asked at)) a.0 name asked asks in
       if_told (files name) _ _ (λ file both short has calm calm_out. absurd (reply_supported file asked at has both.1)) fact
@@ -429,7 +451,7 @@ module _ (words : List (List ℕ)) (files : List ℕ → Option (List ℕ)) (bef
     silent = λ zero_is. absurd (omega arith);
     words_told = λ two. absurd (omega arith);
     image_told = λ four. absurd (omega arith);
-    absent_told = λ five name asked asks. inl (fact_of (files name) _ (asked_fact words (λ name asked. OfFile (files name) HasNoEntry) a.0 name asked asks), line);
+    absent_told = λ five name asked asks. inl (fact_of (files name) _ (asked_fact words (λ name asked. OfFile (files name) (λ file. HasNoEntry file asked)) a.0 name asked asks), line);
     output_told = λ six. absurd (omega arith);
     memory_told = λ seven. absurd (omega arith);
     unsupported_told = λ nine. absurd (omega arith);
@@ -472,13 +494,13 @@ module _ (words : List (List ℕ)) (files : List ℕ → Option (List ℕ)) (bef
   }
 
 -- the code that was found is that of a file with this image
-pub file_code : (file : List ℕ) (image : Image) (code : List ℕ) (instrs : List Instr) → Enters file image → code ≡ code_of image image.entry → IsStraight image.entry code instrs → HasCode file instrs
-file_code file image code instrs entered is straight = record { image = image; entered = entered; straight = subst (λ c. IsStraight image.entry c instrs) is straight }
+pub file_code : (file : List ℕ) (entry : Option Entry) (image : Image) (place : ℕ) (code : List ℕ) (instrs : List Instr) → Enters file entry image place → code ≡ code_of image place → IsStraight place code instrs → HasCode file entry instrs
+file_code file entry image place code instrs entered is straight = record { image = image; place = place; entered = entered; straight = subst (λ c. IsStraight place c instrs) is straight }
 
 -- the text of a list that begins in code
-pub file_list : (file : List ℕ) (image : Image) (from : Option ℕ) (steps place : ℕ) (text : List ℕ) → Enters file image → place ≡ first_place image from → is_code image place ≡ true → IsTheListing image place steps text → IsListReply file from steps text
-file_list file image from steps place text entered is code lists = record {
-  there = record { image = image; entered = entered; begins = subst (λ a. is_code image a ≡ true) is code };
+pub file_list : (file : List ℕ) (entry : Option Entry) (image : Image) (place : ℕ) (from : Option ℕ) (steps first : ℕ) (text : List ℕ) → Enters file entry image place → first ≡ first_place place from → is_code image first ≡ true → IsTheListing image first steps text → IsListReply file entry from steps text
+file_list file entry image place from steps first text entered is code lists = record {
+  there = record { image = image; place = place; entered = entered; begins = subst (λ a. is_code image a ≡ true) is code };
   lists = subst (λ a. IsTheListing image a steps text) is lists;
 }
 
@@ -489,10 +511,13 @@ refused_by words files before now old Whole Stops faults name bytes asked (none.
 refused_by words files before now old Whole Stops faults name bytes asked none.Entry asks gives short fact = (record { name = name; asked = asked; asks = asks; fact = of_file (files name) bytes _ gives short fact }, refl)
 refused_by words files before now old Whole Stops faults name bytes asked (none.Unsupported at) asks gives short fact = (record { name = name; asked = asked; asks = asks; fact = of_file (files name) bytes _ gives short fact }, refl)
 refused_by words files before now old Whole Stops faults name bytes asked (none.Absent at) asks gives short fact = (record { name = name; asked = asked; asks = asks; fact = of_file (files name) bytes _ gives short fact }, refl)
-refused_by words files before now old Whole Stops faults name bytes asked none.Memory asks gives short fact = (record { name = name; asked = asked; asks = asks; fact = tt }, refl)
+refused_by words files before now old Whole Stops faults name bytes asked none.Memory asks gives short fact = refl
 
-pub refused : (words : List (List ℕ)) (files : List ℕ → Option (List ℕ)) (before now : List ℕ → ℕ) (old : Option (List ℕ)) (Whole Stops : List ℕ → Type 0) (faults : ℕ) (name bytes : List ℕ) (asked : Task) (r : Result (Vec ℕ Global) NoReply) (why : NoReply)
-    → Asks words name asked → Gives (files name) bytes → length bytes ≤ image_limit → Replies bytes asked r → r ≡ Err why → Answers words files before now old old Whole Stops faults faults (Err (refusal_of why))
-refused words files before now old Whole Stops faults name bytes asked r why asks gives short replies is =
-    let fact : Replies bytes asked (Err why) = subst (λ x. Replies bytes asked x) is replies in
-    refused_by words files before now old Whole Stops faults name bytes asked why asks gives short fact
+pub refused : (words : List (List ℕ)) (files : List ℕ → Option (List ℕ)) (before now : List ℕ → ℕ) (old : Option (List ℕ)) (Whole Stops : List ℕ → Type 0) (faults : ℕ) (name bytes : List ℕ) (asked : Task) (why : NoReply) (told : Refusal)
+    → told ≡ refusal_of why → Asks words name asked → Gives (files name) bytes → length bytes ≤ image_limit → Replies bytes asked (Err why) → Answers words files before now old old Whole Stops faults faults (Err told)
+refused words files before now old Whole Stops faults name bytes asked why told is asks gives short replies =
+    subst (λ (e : Refusal). Answers words files before now old old Whole Stops faults faults (Err e)) (sym is) (refused_by words files before now old Whole Stops faults name bytes asked why asks gives short replies)
+
+-- what is answered to a task that is known
+pub replies_to : (file : List ℕ) (asked variant : Task) (r : Result (Vec ℕ Global) NoReply) → asked ≡ variant → Replies file variant r → Replies file asked r
+replies_to file asked variant r is replies = subst (λ (t : Task). Replies file t r) (sym is) replies

@@ -1,20 +1,22 @@
 -- A reply tells every dependence of every run of its file's image.
-use Rattle.std.proofs.Common.{◌≡◌, ℕ, zero, suc, ◌<◌, List, [], ◌∷◌, ◌++◌, length, get_or, sym, ap, subst, ◌∙◌, arith, append_assoc}
-use Rattle.std.specs.Prelude.{false, Contains, Option}
+use Rattle.std.proofs.Common.{◌≡◌, ℕ, zero, suc, ◌<◌, Option, List, [], ◌∷◌, ◌++◌, length, get_or, sym, ap, subst, ◌∙◌, arith, append_assoc}
+use Rattle.std.specs.Prelude.{false, Contains}
 use Rattle.std.specs.List.{flat_map}
 use Rattle.std.proofs.lemmas.Option.{IfSome_then}
 use Rattle.surf_base.specs.Sink.{Appends, WritesLines}
 use Rattle.surf_base.proofs.TextLines.{lines_append}
+use Rattle.command_words.specs.declared.line.Entry.{Entry}
+use Rattle.surf_prog.specs.Entry.{Enters}
 use Rattle.surf_prog.specs.declared.words.Task.{Task}
 use Rattle.surf_prog.specs.declared.words.Task.TheVariants as task
 use Rattle.surf_prog.specs.Reply.{address_line, slice_head, slice_end, slice_text}
 use Rattle.surf_prog.specs.StraightCode.{IsStraight}
 use Rattle.surf_prog.specs.Code.{code_of}
 use Rattle.surf_prog.specs.Once.{IsSliceReply, IsReply, WritesReply}
-use Rattle.surf_prog.specs.RunReply.{entered_where, TellsAddress, TellsDependences, WritesDependences}
+use Rattle.surf_prog.specs.RunReply.{entered_at, TellsAddress, TellsDependences, WritesDependences}
 use Rattle.surf_prog.specs.Ia32Run.{stands_at}
 use Rattle.surf_prog.proofs.StraightLaw.{slices_list_dependences}
-use Rattle.surf_prog.proofs.FileImage.{same_entry, same_code_of, entered_code}
+use Rattle.surf_prog.proofs.FileImage.{same_code_of, one_place, entered_too, entered_code}
 
 -- an element's lines stand among all lines
 told : (f : ℕ → List ℕ) (xs : List ℕ) (x k : ℕ) → k < length xs → get_or xs k x ≡ x → (rest : List ℕ) → (before : List ℕ) × (after : List ℕ) × (flat_map f xs ++ rest ≡ before ++ (f x ++ after))
@@ -29,22 +31,22 @@ slice_tells at round lane addresses warnings address c =
     let r = told address_line addresses address c.0 c.1 c.2 (slice_end (length addresses) warnings) in
     (slice_head at round lane ++ r.0, r.1, ap (λ l. slice_head at round lane ++ l) r.2 ∙ sym (append_assoc (slice_head at round lane) r.0 (address_line address ++ r.1)))
 
-pub slice_tells_dependences : (file : List ℕ) (at : ℕ) (text : List ℕ) → IsSliceReply file at text → TellsDependences file (task.Slice at) text
-slice_tells_dependences file at text reply image loads run is j i criterion source criterion_is there source_is depends =
+pub slice_tells_dependences : (file : List ℕ) (entry : Option Entry) (at lane : ℕ) (text : List ℕ) → IsSliceReply file entry at lane text → TellsDependences file (task.Slice entry at lane) text
+slice_tells_dependences file entry at lane text reply image loads place finds run is j i criterion source criterion_is there source_is depends =
     let own = reply.code.image in
-    let own_loads = reply.code.entered.loads in
-    let entry = same_entry file own image own_loads loads in
-    let code = same_code_of file own image own_loads loads in
-    let moved = subst (λ c. IsStraight own.entry c reply.instrs) code reply.code.straight in
-    let straight = subst (λ e. IsStraight e (code_of image image.entry) reply.instrs) entry moved in
+    let entered = reply.code.entered in
+    let code = same_code_of file own image entered.loads loads reply.code.place in
+    let moved = subst (λ c. IsStraight reply.code.place c reply.instrs) code reply.code.straight in
+    let here : Enters file entry image place = entered_too file entry own image reply.code.place place entered loads finds in
+    let straight = subst (λ e. IsStraight e (code_of image e) reply.instrs) (one_place file entry own image reply.code.place place entered here) moved in
     let there_is =
-    slices_list_dependences image (entered_where image) (code_of image image.entry) reply.instrs straight (entered_code file image loads) false at reply.addresses reply.slice
+    slices_list_dependences image (entered_at place) (code_of image place) reply.instrs straight (entered_code file entry image place here) false at reply.addresses reply.slice
     run is j i criterion source criterion_is there source_is depends in
-    subst (λ t. TellsAddress t (stands_at source)) (sym reply.text_is) (slice_tells at 0 2 reply.addresses 0 (stands_at source) there_is)
+    subst (λ t. TellsAddress t (stands_at source)) (sym reply.text_is) (slice_tells at 0 lane reply.addresses 0 (stands_at source) there_is)
 
 pub reply_tells_dependences : (file : List ℕ) (asked : Task) (text : List ℕ) → IsReply file asked text → TellsDependences file asked text
-reply_tells_dependences file (task.Slice at) text reply = slice_tells_dependences file at text reply
-reply_tells_dependences file (task.List from steps) text reply = tt
+reply_tells_dependences file (task.Slice entry at lane) text reply = slice_tells_dependences file entry at lane text reply
+reply_tells_dependences file (task.List entry from steps) text reply = tt
 
 -- so does what a request writes
 pub writes_dependences : (words : List (List ℕ)) (files : List ℕ → Option (List ℕ)) (old new : Option (List ℕ)) → WritesReply words files (λ text. Appends old new text) → WritesDependences words files old new

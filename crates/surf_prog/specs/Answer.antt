@@ -1,35 +1,51 @@
 -- The steps of a request: what a reply and a refusal say.
-use Rattle.std.specs.Prelude.{◌≡◌, ℕ, ◌≤◌, List, length, Option, IfSome, Result, Ok, Err, Vec}
+use Rattle.std.specs.Prelude.{◌≡◌, ℕ, ◌≤◌, true, Some, List, length, Option, IfSome, Result, Ok, Err, Vec}
 use Rattle.std.specs.declared.alloc.Global.{Global}
 use Rattle.surf_base.specs.Faults.{Rose}
 use Rattle.surf_base.specs.Shelf.{IsLonger}
 use Rattle.image_map.specs.declared.image.Image.{Image}
+use Rattle.image_map.specs.Queries.{is_code}
 use Rattle.surf_prog.specs.declared.request.NoReply.{NoReply}
 use Rattle.surf_prog.specs.declared.request.NoReply.TheVariants as none
 use Rattle.surf_prog.specs.declared.refusal.Refusal.{Refusal}
 use Rattle.surf_prog.specs.declared.refusal.Refusal.TheVariants as refusal
 use Rattle.surf_prog.specs.declared.words.Task.{Task}
+use Rattle.surf_prog.specs.Entry.{entry_place, Enters, IsNoEntry}
 use Rattle.surf_prog.specs.Words.{Asks}
-use Rattle.surf_prog.specs.Once.{image_limit, Enters, IsReply, HasNoImage, HasNoEntry, IsUnsupported, IsAbsent, AsksNothing, words_line, shelf_line, too_long_line, image_line, entry_line, unsupported_line, absent_line, output_line, memory_line}
+use Rattle.command_words.specs.declared.line.Entry.{Entry}
+use Rattle.command_words.specs.declared.line.WordsError.{WordsError}
+use Rattle.command_words.specs.declared.line.WordsError.TheVariants as words
+use Rattle.surf_prog.specs.Once.{image_limit, IsReply, HasNoImage, HasNoEntry, IsUnsupported, IsAbsent, AsksNothing, words_line, shelf_line, too_long_line, image_line, entry_line, unsupported_line, absent_line, output_line, memory_line}
 
 -- what a file answers to a task, or why it doesn't
 abbrev pub Replies : List ℕ → Task → Result (Vec ℕ Global) NoReply → Type 0
 Replies file asked (Ok text) = IsReply file asked text.items
 Replies file asked (Err (none.Image cause)) = HasNoImage file cause
-Replies file asked (Err none.Entry) = HasNoEntry file
+Replies file asked (Err none.Entry) = HasNoEntry file asked
 Replies file asked (Err (none.Unsupported at)) = IsUnsupported file asked at
 Replies file asked (Err (none.Absent at)) = IsAbsent file asked at
 Replies file asked (Err none.Memory) = Unit {0}
 
--- the same for each file that has this image and is entered in code
-abbrev pub RepliesFrom : Image → Task → Result (Vec ℕ Global) NoReply → Type 0
-RepliesFrom image asked result = (file : List ℕ) → Enters file image → Replies file asked result
+-- the same for each file that has this image and is entered at this place
+abbrev pub RepliesFrom : Image → ℕ → (Option Entry → Task) → Result (Vec ℕ Global) NoReply → Type 0
+RepliesFrom image place asked result = (file : List ℕ) (entry : Option Entry) → Enters file entry image place → Replies file (asked entry) result
 
 -- why a file has no image
 abbrev pub IsNoImage : List ℕ → NoReply → Type 0
 IsNoImage file (none.Image cause) = HasNoImage file cause
 IsNoImage file none.Memory = Unit {0}
 IsNoImage file other = ⊥
+
+-- where an image is entered, or that it isn't
+abbrev pub FindsEntry : Image → Option Entry → Result ℕ NoReply → Type 0
+FindsEntry image entry (Ok place) = (entry_place image entry ≡ Some place) × (is_code image place ≡ true)
+FindsEntry image entry (Err none.Entry) = IsNoEntry image entry
+FindsEntry image entry (Err other) = ⊥
+
+-- the refusal of words that weren't read
+abbrev pub words_refusal : WordsError → Refusal
+words_refusal words.Refused = refusal.Words
+words_refusal words.Memory = refusal.Memory
 
 -- the refusal of a file that doesn't answer
 abbrev pub refusal_of : NoReply → Refusal
@@ -58,25 +74,25 @@ Answers words files before now old new Whole Stops faults_before faults_now (Ok 
     Asked words (λ name asked. (text : List ℕ) × OfFile (files name) (λ file. IsReply file asked text) × Whole text)
 Answers words files before now old new Whole Stops faults_before faults_now (Err refusal.Words) = AsksNothing words × (new ≡ old)
 Answers words files before now old new Whole Stops faults_before faults_now (Err (refusal.Shelf told)) =
-    Asked words (λ name asked. (name ≡ told.now) × Rose (before name) (now name)) × (new ≡ old)
+    Asked words (λ name asked. (name ≡ told) × Rose (before name) (now name)) × (new ≡ old)
 Answers words files before now old new Whole Stops faults_before faults_now (Err (refusal.TooLong told)) =
-    Asked words (λ name asked. (name ≡ told.now) × IsLonger (files name) image_limit) × (new ≡ old)
+    Asked words (λ name asked. (name ≡ told) × IsLonger (files name) image_limit) × (new ≡ old)
 Answers words files before now old new Whole Stops faults_before faults_now (Err (refusal.Image cause)) =
     Asked words (λ name asked. OfFile (files name) (λ file. HasNoImage file cause)) × (new ≡ old)
 Answers words files before now old new Whole Stops faults_before faults_now (Err refusal.Entry) =
-    Asked words (λ name asked. OfFile (files name) HasNoEntry) × (new ≡ old)
+    Asked words (λ name asked. OfFile (files name) (λ file. HasNoEntry file asked)) × (new ≡ old)
 Answers words files before now old new Whole Stops faults_before faults_now (Err (refusal.Unsupported at)) =
     Asked words (λ name asked. OfFile (files name) (λ file. IsUnsupported file asked at)) × (new ≡ old)
 Answers words files before now old new Whole Stops faults_before faults_now (Err (refusal.Absent at)) =
     Asked words (λ name asked. OfFile (files name) (λ file. IsAbsent file asked at)) × (new ≡ old)
 Answers words files before now old new Whole Stops faults_before faults_now (Err refusal.Output) =
     Asked words (λ name asked. (text : List ℕ) × OfFile (files name) (λ file. IsReply file asked text) × Stops text) × Rose faults_before faults_now
-Answers words files before now old new Whole Stops faults_before faults_now (Err refusal.Memory) = Asked words (λ name asked. Unit {0}) × (new ≡ old)
+Answers words files before now old new Whole Stops faults_before faults_now (Err refusal.Memory) = new ≡ old
 
 abbrev pub line_of : Refusal → List ℕ
 line_of refusal.Words = words_line
-line_of (refusal.Shelf name) = shelf_line name.now
-line_of (refusal.TooLong name) = too_long_line name.now
+line_of (refusal.Shelf name) = shelf_line name
+line_of (refusal.TooLong name) = too_long_line name
 line_of (refusal.Image cause) = image_line cause
 line_of refusal.Entry = entry_line
 line_of (refusal.Unsupported at) = unsupported_line at

@@ -8,6 +8,7 @@ pub mod Fetch
 pub mod Code
 pub mod Listing
 pub mod Words
+pub mod Entry
 pub mod Reply
 pub mod Once
 pub mod Answer

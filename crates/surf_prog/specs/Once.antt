@@ -19,7 +19,9 @@ use Rattle.surf_prog.specs.StraightCode.{IsStraight, StopsAt, straight_graph}
 use Rattle.surf_prog.specs.Code.{code_of}
 use Rattle.surf_prog.specs.Listing.{IsTheListing}
 use Rattle.surf_prog.specs.Reply.{slice_text}
-use Rattle.surf_prog.specs.Words.{Asks}
+use Rattle.surf_prog.specs.Entry.{Enters, LacksEntry}
+use Rattle.surf_prog.specs.Words.{Asks, request_of, entry_of}
+use Rattle.command_words.specs.declared.line.Entry.{Entry}
 
 -- the greatest length of a file that is read
 abbrev pub image_limit : ℕ
@@ -27,74 +29,74 @@ image_limit = 16777216
 
 -- -- What a file answers
 
--- the file has this image, and its entry is code
-pub record Enters (file : List ℕ) (image : Image) : Type 0 where
-  pub loads : Loads file image
-  pub enters : is_code image image.entry ≡ true
-
--- the code from the file's entry on is straight, with these instructions
-pub record HasCode (file : List ℕ) (instrs : List Instr) : Type 0 where
+-- the code of the file from the place on where it is entered is straight, with these instructions
+pub record HasCode (file : List ℕ) (entry : Option Entry) (instrs : List Instr) : Type 0 where
   pub image : Image
-  pub entered : Enters file image
-  pub straight : IsStraight image.entry (code_of image image.entry) instrs
+  pub place : ℕ
+  pub entered : Enters file entry image place
+  pub straight : IsStraight place (code_of image place) instrs
 
 -- a node of the code's flow graph stands at the address
 abbrev pub HasNode : List Instr → ℕ → Type 0
 HasNode instrs at = (n : ℕ) × IsAt (straight_graph instrs) at n
 
 -- The text is the reply to a slice at this address in this file: there is a list of addresses that is the slice of the flow
--- graph of the file's code, and the text is that of this list, for round 0, lane 2 and no warning.
-pub record IsSliceReply (file : List ℕ) (at : ℕ) (text : List ℕ) : Type 0 where
+-- graph of the file's code, and the text is that of this list, for round 0 and no warning. Straight code calls nothing, so its
+-- slice is one for call strings of every length.
+pub record IsSliceReply (file : List ℕ) (entry : Option Entry) (at lane : ℕ) (text : List ℕ) : Type 0 where
   pub instrs : List Instr
-  pub code : HasCode file instrs
+  pub code : HasCode file entry instrs
   pub criterion : HasNode instrs at
   pub addresses : List ℕ
   pub slice : IsSlice (straight_graph instrs) at false addresses
-  pub text_is : text ≡ slice_text at 0 2 addresses 0
+  pub text_is : text ≡ slice_text at 0 lane addresses 0
 
--- a list begins at the address that was named, or at the entry
-abbrev pub first_place : Image → Option ℕ → ℕ
-first_place image None = image.entry
-first_place image (Some at) = at
+-- a list begins at the address that was named, or where the program is entered
+abbrev pub first_place : ℕ → Option ℕ → ℕ
+first_place place None = place
+first_place place (Some at) = at
 
 -- the file's image is entered in code, and a list from this address on begins in code
-pub record HasList (file : List ℕ) (from : Option ℕ) : Type 0 where
+pub record HasList (file : List ℕ) (entry : Option Entry) (from : Option ℕ) : Type 0 where
   pub image : Image
-  pub entered : Enters file image
-  pub begins : is_code image (first_place image from) ≡ true
+  pub place : ℕ
+  pub entered : Enters file entry image place
+  pub begins : is_code image (first_place place from) ≡ true
 
 -- the text lists the instructions of the file's image from this address on, and no other text does
-pub record IsListReply (file : List ℕ) (from : Option ℕ) (steps : ℕ) (text : List ℕ) : Type 0 where
-  pub there : HasList file from
-  pub lists : IsTheListing there.image (first_place there.image from) steps text
+pub record IsListReply (file : List ℕ) (entry : Option Entry) (from : Option ℕ) (steps : ℕ) (text : List ℕ) : Type 0 where
+  pub there : HasList file entry from
+  pub lists : IsTheListing there.image (first_place there.place from) steps text
 
 -- the text is the reply to what is asked
 abbrev pub IsReply : List ℕ → Task → List ℕ → Type 0
-IsReply file (task.Slice at) text = IsSliceReply file at text
-IsReply file (task.List from steps) text = IsListReply file from steps text
+IsReply file (task.Slice entry at lane) text = IsSliceReply file entry at lane text
+IsReply file (task.List entry from steps) text = IsListReply file entry from steps text
 
 -- there is a reply
 abbrev pub HasReply : List ℕ → Task → Type 0
-HasReply file (task.Slice at) = (instrs : List Instr) × HasCode file instrs × HasNode instrs at
-HasReply file (task.List from steps) = HasList file from
+HasReply file (task.Slice entry at lane) = (instrs : List Instr) × HasCode file entry instrs × HasNode instrs at
+HasReply file (task.List entry from steps) = HasList file entry from
 
 -- the file has no image: this check is the first that fails
 abbrev pub HasNoImage : List ℕ → ElfError → Type 0
 HasNoImage file cause = failure file ≡ Some cause
 
--- the entry of its image isn't code
-abbrev pub HasNoEntry : List ℕ → Type 0
-HasNoEntry file = (image : Image) × Loads file image × (is_code image image.entry ≡ false)
+-- it has one that isn't entered in code
+abbrev pub HasNoEntry : List ℕ → Task → Type 0
+HasNoEntry file asked = LacksEntry file (entry_of asked)
 
 -- a slice is asked, and this is the first place at which the code from the entry on isn't straight
 abbrev pub IsUnsupported : List ℕ → Task → ℕ → Type 0
-IsUnsupported file (task.Slice at) stop = (image : Image) × Enters file image × StopsAt image.entry (code_of image image.entry) stop
-IsUnsupported file (task.List from steps) stop = ⊥
+IsUnsupported file (task.Slice entry at lane) stop =
+    (image : Image) × (place : ℕ) × Enters file entry image place × StopsAt place (code_of image place) stop
+IsUnsupported file (task.List entry from steps) stop = ⊥
 
 -- the code is straight, and no node stands at the address; or a list was to begin at this address, which isn't code
 abbrev pub IsAbsent : List ℕ → Task → ℕ → Type 0
-IsAbsent file (task.Slice at) place = (place ≡ at) × ((instrs : List Instr) × HasCode file instrs × ¬ HasNode instrs at)
-IsAbsent file (task.List from steps) place = (from ≡ Some place) × ((image : Image) × Enters file image × (is_code image place ≡ false))
+IsAbsent file (task.Slice entry at lane) absent = (absent ≡ at) × ((instrs : List Instr) × HasCode file entry instrs × ¬ HasNode instrs at)
+IsAbsent file (task.List entry from steps) absent =
+    (from ≡ Some absent) × ((image : Image) × (place : ℕ) × Enters file entry image place × (is_code image absent ≡ false))
 
 -- -- What is told on the error sink
 
@@ -173,7 +175,7 @@ ForAsked words P = (name : List ℕ) (asked : Task) → Asks words name asked �
 
 -- the words ask for nothing
 abbrev pub AsksNothing : List (List ℕ) → Type 0
-AsksNothing words = (name : List ℕ) (asked : Task) → ¬ Asks words name asked
+AsksNothing words = request_of words ≡ None
 
 -- this holds of the reply that is asked for, and where its file is told, it is that file's
 abbrev pub WritesReply : List (List ℕ) → (List ℕ → Option (List ℕ)) → (List ℕ → Type 0) → Type 0
@@ -194,7 +196,7 @@ pub record ErrorLines (words : List (List ℕ)) (files : List ℕ → Option (Li
   pub words_told : status ≡ 2 → TellsLine old new before now words_line
   pub image_told : status ≡ 4 → ForAsked words (λ name asked. (cause : ElfError) × IfSome (files name) (λ file. HasNoImage file cause) × TellsLine old new before now (image_line cause))
   pub absent_told : status ≡ 5 → ForAsked words (λ name asked.
-      (IfSome (files name) HasNoEntry × TellsLine old new before now entry_line)
+      (IfSome (files name) (λ file. HasNoEntry file asked) × TellsLine old new before now entry_line)
       ⊎ ((at : ℕ) × IfSome (files name) (λ file. IsAbsent file asked at) × TellsLine old new before now (absent_line at)))
   pub output_told : status ≡ 6 → TellsLine old new before now output_line
   pub memory_told : status ≡ 7 → TellsLine old new before now memory_line

@@ -19,8 +19,8 @@ AbsencesAreOne = (file : List ℕ) (asked : Task) (one other : ℕ) → IsAbsent
 -- of the five outcomes of a file that was read, each excludes the ones after it
 pub record OutcomesExclude : Type 0 where
   pub no_image : (file : List ℕ) (asked : Task) (cause : ElfError) → HasNoImage file cause
-      → (¬ HasNoEntry file) × ((at : ℕ) → ¬ IsUnsupported file asked at) × ((at : ℕ) → ¬ IsAbsent file asked at) × (¬ HasReply file asked)
-  pub no_entry : (file : List ℕ) (asked : Task) → HasNoEntry file
+      → (¬ HasNoEntry file asked) × ((at : ℕ) → ¬ IsUnsupported file asked at) × ((at : ℕ) → ¬ IsAbsent file asked at) × (¬ HasReply file asked)
+  pub no_entry : (file : List ℕ) (asked : Task) → HasNoEntry file asked
       → ((at : ℕ) → ¬ IsUnsupported file asked at) × ((at : ℕ) → ¬ IsAbsent file asked at) × (¬ HasReply file asked)
   pub unsupported : (file : List ℕ) (asked : Task) (place : ℕ) → IsUnsupported file asked place
       → ((at : ℕ) → ¬ IsAbsent file asked at) × (¬ HasReply file asked)

@@ -5,6 +5,7 @@ use Rattle.image_map.specs.declared.image.Image.{Image}
 use Rattle.elf32.specs.Loading.{Loads}
 use Rattle.surf_prog.specs.declared.words.Task.{Task}
 use Rattle.surf_prog.specs.declared.words.Task.TheVariants as task
+use Rattle.surf_prog.specs.Entry.{entry_place}
 use Rattle.surf_prog.specs.Once.{ForAsked}
 use Rattle.surf_prog.specs.Reply.{address_line}
 use Rattle.surf_prog.specs.Ia32Machine.{Settings}
@@ -14,21 +15,21 @@ use Rattle.surf_prog.specs.Ia32Run.{Occurrence, stands_at, IsRun, Depends}
 abbrev pub TellsAddress : List ℕ → ℕ → Type 0
 TellsAddress text address = (before : List ℕ) × (after : List ℕ) × (text ≡ before ++ (address_line address ++ after))
 
--- an image is entered where it says
-abbrev pub entered_where : Image → Settings
-entered_where image = record { entry = image.entry }
+-- an image is entered at this place
+abbrev pub entered_at : ℕ → Settings
+entered_at place = record { entry = place }
 
 -- Wherever in a run of the file's image an occurrence at the criterion depends on another, the text tells the other's address.
 -- (A list has no criterion.)
 abbrev pub TellsDependences : List ℕ → Task → List ℕ → Type 0
-TellsDependences file (task.Slice at) text =
-    (image : Image) → Loads file image
-    → (run : List Occurrence) → IsRun image (entered_where image) run
+TellsDependences file (task.Slice entry at lane) text =
+    (image : Image) → Loads file image → (place : ℕ) → entry_place image entry ≡ Some place
+    → (run : List Occurrence) → IsRun image (entered_at place) run
     → (j i : ℕ) (criterion source : Occurrence)
     → slice_get run j ≡ Some criterion → stands_at criterion ≡ at → slice_get run i ≡ Some source
-    → Depends image (entered_where image) false run j i
+    → Depends image (entered_at place) false run j i
     → TellsAddress text (stands_at source)
-TellsDependences file (task.List from steps) text = Unit {0}
+TellsDependences file (task.List entry from steps) text = Unit {0}
 
 -- What was asked for was appended, and where the file is told and a slice was asked for, it tells the dependences of the file's runs.
 abbrev pub WritesDependences : List (List ℕ) → (List ℕ → Option (List ℕ)) → Option (List ℕ) → Option (List ℕ) → Type 0

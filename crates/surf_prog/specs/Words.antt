@@ -1,76 +1,45 @@
--- What the words of the command line ask for. The project's own.
-use Rattle.std.specs.Prelude.{◌≡◌, ◌≢◌, ◌⊎◌, ℕ, ◌≤◌, List, [], ◌∷◌, length, slice_index, codes, Option, Some, None, MatchOption}
-use Rattle.std.specs.Str.Parse.{IsNumeral, digits_value}
+-- What the words of the command line ask this program for. The project's own.
+use Rattle.std.specs.Prelude.{◌≡◌, ℕ, ◌==◌, ◌&&◌, not, Bool, false, List, Option, Some, None, if◌then◌else◌}
+use Rattle.std.specs.Option.{option_and_then, option_map_or}
+use Rattle.command_words.specs.declared.line.CommandLine.{CommandLine}
+use Rattle.command_words.specs.declared.line.Entry.{Entry}
+use Rattle.command_words.specs.declared.line.Options.{Options}
+use Rattle.command_words.specs.declared.line.Task.{Task as Command}
+use Rattle.command_words.specs.declared.line.Task.TheVariants as commands
+use Rattle.command_words.specs.Said.{said}
 use Rattle.surf_prog.specs.declared.words.Task.{Task}
 use Rattle.surf_prog.specs.declared.words.Task.TheVariants as task
+use Rattle.surf_prog.specs.declared.words.Request.{Request}
 
--- 1 to this many digits of a base, of either case, which write the number
-pub record Writes (base most : ℕ) (digits : List ℕ) (number : ℕ) : Type 0 where
-  pub numeral : IsNumeral base digits
-  pub short : length digits ≤ most
-  pub value : number ≡ digits_value base digits
+-- Of slices there are those of round 0 that follow ESP. As long as there are no others, words that ask for another are refused.
+abbrev pub has_slice : Options → Bool
+has_slice options = option_map_or (λ round. round == 0) options.round false && not options.skip_sp
 
--- an address: 0x and 1 to 8 hexadecimal digits
-pub record IsAddress (word : List ℕ) (at : ℕ) : Type 0 where
-  pub digits : List ℕ
-  pub split : word ≡ 48 ∷ 120 ∷ digits
-  pub writes : Writes 16 8 digits at
+abbrev pub slice_asked : List ℕ → ℕ → Options → Option Request
+slice_asked image at options =
+    if has_slice options then Some (record { name = image; task = task.Slice options.entry at options.lane }) else None
 
--- a number: 1 to 10 decimal digits
-abbrev pub IsNumber : List ℕ → ℕ → Type 0
-IsNumber word number = Writes 10 10 word number
+abbrev pub list_asked : List ℕ → Option ℕ → Options → Request
+list_asked image at options = record { name = image; task = task.List options.entry at options.steps }
 
--- the word doesn't begin with '-'
-abbrev pub IsName : List ℕ → Type 0
-IsName word = slice_index word 0 ≢ 45
+-- what a task and its options ask for; a task that isn't there yet is refused
+abbrev pub task_asked : Command → Options → Option Request
+task_asked (commands.Slice image at) options = slice_asked image at options
+task_asked (commands.List image at) options = Some (list_asked image at options)
+task_asked other options = None
 
--- the option --at with its address
-pub record IsAtOption (option word : List ℕ) (at : ℕ) : Type 0 where
-  pub option_is : option ≡ codes "--at"
-  pub address : IsAddress word at
+abbrev pub line_asked : CommandLine → Option Request
+line_asked line = task_asked line.task line.options
 
--- the option --round with round 0, the one that there is
-pub record IsRoundOption (option word : List ℕ) : Type 0 where
-  pub option_is : option ≡ codes "--round"
-  pub zero : IsNumber word 0
+-- what the words ask for
+abbrev pub request_of : List (List ℕ) → Option Request
+request_of words = option_and_then line_asked (said words)
 
--- the option --steps with a number from 1 to 65536
-pub record IsStepsOption (option word : List ℕ) (steps : ℕ) : Type 0 where
-  pub option_is : option ≡ codes "--steps"
-  pub number : IsNumber word steps
-  pub least : 1 ≤ steps
-  pub most : steps ≤ 65536
+-- The words ask for this of the file with this name.
+abbrev pub Asks : List (List ℕ) → List ℕ → Task → Type 0
+Asks words name asked = request_of words ≡ Some (record { name = name; task = asked })
 
--- how many instructions a list has at most where nothing is said
-abbrev pub usual_steps : ℕ
-usual_steps = 1000
-
--- the options of a slice: --at and --round
-abbrev pub SliceOptions : List (List ℕ) → ℕ → Type 0
-SliceOptions (a ∷ address ∷ r ∷ round ∷ []) at = IsAtOption a address at × IsRoundOption r round
-SliceOptions other at = ⊥
-
--- the options of a list: none, one of --at and --steps, or both in this order
-abbrev pub ListOptions : List (List ℕ) → Option ℕ → ℕ → Type 0
-ListOptions [] from steps = (from ≡ None) × (steps ≡ usual_steps)
-ListOptions (option ∷ word ∷ []) from steps =
-    ((at : ℕ) × IsAtOption option word at × (from ≡ Some at) × (steps ≡ usual_steps)) ⊎ (IsStepsOption option word steps × (from ≡ None))
-ListOptions (a ∷ address ∷ s ∷ number ∷ []) from steps = (at : ℕ) × IsAtOption a address at × (from ≡ Some at) × IsStepsOption s number steps
-ListOptions other from steps = ⊥
-
--- the first word and the options ask for this
-abbrev pub AsksTask : List ℕ → List (List ℕ) → Task → Type 0
-AsksTask op options (task.Slice at) = (op ≡ codes "slice") × SliceOptions options at
-AsksTask op options (task.List from steps) = (op ≡ codes "list") × ListOptions options from steps
-
--- the task that the first word and the options ask for, or none where they ask for none
-abbrev pub Finds : List ℕ → List (List ℕ) → Option Task → Type 0
-Finds op options found = MatchOption found ((t : Task) → ¬ AsksTask op options t) (λ t. AsksTask op options t)
-
--- The words ask for this of the file with this name: what to do, the name, and then the options.
-pub record Asks (words : List (List ℕ)) (name : List ℕ) (asked : Task) : Type 0 where
-  pub op : List ℕ
-  pub options : List (List ℕ)
-  pub words_are : words ≡ op ∷ name ∷ options
-  pub named : IsName name
-  pub asks : AsksTask op options asked
+-- where the program is to be entered
+abbrev pub entry_of : Task → Option Entry
+entry_of (task.Slice entry at lane) = entry
+entry_of (task.List entry from steps) = entry

@@ -6,19 +6,22 @@ ghost use Rattle.surf_base.specs.Sink.{Appends, AppendsPart};
 ghost use Rattle.surf_prog.specs.Once.{TellsLine, numbers_text, numbered_line, image_line};
 ghost use Rattle.surf_prog.specs.Answer.{line_of, status_of};
 
+use crate::line::Line;
+use command_words::Text;
 use elf32::ElfError;
 use itoa::Buffer;
+use std::alloc::Global;
 use surf_base::{Sink, SinkFailed, hex8};
 
 /// Why a request wasn't answered.
-#[derive(Clone, Copy)]
-pub enum Refusal<'a> {
+#[derive(Drop)]
+pub enum Refusal {
     Words,
-    Shelf(&'a str),
-    TooLong(&'a str),
+    Shelf(Text),
+    TooLong(Text),
     /// The file has no image: this check fails first.
     Image(ElfError),
-    /// The image's entry isn't code.
+    /// The image isn't entered in code.
     Entry,
     /// The code isn't straight from this place on.
     Unsupported(u32),
@@ -118,14 +121,19 @@ fn complain_of_image<E: Sink>(cause: ElfError, err: &mut E)
     }
 }
 
-/// Tells of a refusal, in one line of the error sink.
-pub fn complain<E: Sink>(refusal: &Refusal<'_>, err: &mut E)
+// Tells the line of a refusal piece by piece.
+fn tell_refusal<E: Sink>(refusal: &Refusal, err: &mut E)
     ensures { TellsLine (E.written err.old) (E.written err.new) (E.faults err.old) (E.faults err.new) (line_of refusal.now) }
 {
     match refusal {
         Refusal::Words => tell(err, b"surf: words", b"", b"\n"),
-        Refusal::Shelf(name) => tell(err, b"surf: shelf ", name.as_bytes(), b"\n"),
-        Refusal::TooLong(name) => tell(err, b"surf: too long ", name.as_bytes(), b" 16777216\n"),
+        Refusal::Shelf(name) => tell(err, b"surf: shelf ", name.as_str().as_bytes(), b"\n"),
+        Refusal::TooLong(name) => tell(
+            err,
+            b"surf: too long ",
+            name.as_str().as_bytes(),
+            b" 16777216\n",
+        ),
         Refusal::Image(cause) => complain_of_image(*cause, err),
         Refusal::Entry => tell(err, b"surf: absent entry", b"", b"\n"),
         Refusal::Unsupported(at) => tell(err, b"surf: unsupported ", &hex8(*at), b"\n"),
@@ -135,8 +143,21 @@ pub fn complain<E: Sink>(refusal: &Refusal<'_>, err: &mut E)
     }
 }
 
+/// Tells of a refusal, in one line of the error sink: by one call, unless memory for the line is wanting.
+pub fn complain<E: Sink>(alloc: Global, refusal: &Refusal, err: &mut E)
+    ensures { TellsLine (E.written err.old) (E.written err.new) (E.faults err.old) (E.faults err.new) (line_of refusal.now) }
+{
+    let mut line = Line::new(alloc);
+    tell_refusal(refusal, &mut line);
+    if line.is_whole() {
+        let _ = err.write(line.text());
+        return;
+    }
+    tell_refusal(refusal, err);
+}
+
 /// The status of a refusal.
-pub fn status(refusal: &Refusal<'_>) -> u8
+pub fn status(refusal: &Refusal) -> u8
     ensures { result ≡ status_of refusal.now }
 {
     match refusal {

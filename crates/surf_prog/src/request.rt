@@ -11,15 +11,17 @@ ghost use Rattle.surf_base.specs.Sink.{Appends, WritesLines, StopsInLine};
 ghost use Rattle.surf_prog.specs.declared.words.Task.TheVariants as kinds;
 ghost use Rattle.surf_prog.specs.Once.{image_limit, first_place as place_of_first, ForAsked, AsksNothing, HasReply, HasNoImage, HasNoEntry, WritesReply, IsUnsupported, IsAbsent, WasRead, IsStatus, WritesNothing, TellsLine, shelf_line, too_long_line, ErrorLines};
 ghost use Rattle.surf_prog.specs.RunReply.{WritesDependences};
-ghost use Rattle.surf_prog.specs.Answer.{Replies, RepliesFrom, IsNoImage, Answers};
+ghost use Rattle.surf_prog.specs.Answer.{Replies, RepliesFrom, FindsEntry, IsNoImage, Answers};
 
 use crate::code::code_of;
+use crate::entry::entry_place;
 use crate::list::listing;
 use crate::refusal::{Refusal, complain, status};
 use crate::slice::backward;
 use crate::straight_code::{StraightCode, straight_code};
 use crate::text::slice_text;
-use crate::words::{Task, asked};
+use crate::words::{Request, Task, request_of};
+use command_words::{Entry, WordsError};
 use elf32::{ElfError, read_image};
 use ia32_types::Instr;
 use image_map::Image;
@@ -29,17 +31,15 @@ use surf_base::{Shelf, ShelfError, Sink, write_lines};
 /// The greatest length of a file that is read, in bytes.
 const IMAGE_LIMIT: u32 = 16_777_216;
 
-/// The round and the length of call strings that the reply names.
+/// The round that the reply names.
 const ROUND: u32 = 0;
-
-const LANE: u32 = 2;
 
 // Why a file doesn't answer what is asked.
 #[derive(Clone, Copy)]
 enum NoReply {
     /// It has no image: this check fails first.
     Image(ElfError),
-    /// The entry isn't code.
+    /// It isn't entered in code.
     Entry,
     /// The code isn't straight from this place on.
     Unsupported(u32),
@@ -66,47 +66,69 @@ fn stands_at(instrs: &[Instr], at: u32) -> bool
     instrs.iter().any(|instr| instr.at == at)
 }
 
-// The reply to a slice in an image.
-fn slice_reply(alloc: Global, image: &Image, at: u32) -> Result<Vec<u8>, NoReply>
-    requires { IsImage image.now }
-    ensures { RepliesFrom image.now (kinds.Slice at) result }
+// The place in code where an image is entered.
+fn found_entry(image: &Image, entry: &Option<Entry>) -> Result<u32, NoReply>
+    ensures { FindsEntry image.now entry.now result }
 {
-    let code = code_of(alloc, image, image.entry)?;
-    let instrs = match straight_code(alloc, image.entry, &code)? {
-        StraightCode::Stops(place) => return Err(NoReply::Unsupported(place)),
+    match entry_place(image, entry) {
+        None => Err(NoReply::Entry),
+        Some(place) => {
+            if !image.is_code(place) {
+                return Err(NoReply::Entry);
+            }
+            Ok(place)
+        }
+    }
+}
+
+// The reply to a slice in an image that is entered at this place.
+fn slice_reply(
+    alloc: Global,
+    image: &Image,
+    place: u32,
+    at: u32,
+    lane: u32,
+) -> Result<Vec<u8>, NoReply>
+    requires { IsImage image.now }
+    ensures { RepliesFrom image.now place (λ entry. kinds.Slice entry at lane) result }
+{
+    let code = code_of(alloc, image, place)?;
+    let instrs = match straight_code(alloc, place, &code)? {
+        StraightCode::Stops(stop) => return Err(NoReply::Unsupported(stop)),
         StraightCode::Straight(instrs) => instrs,
     };
     if !stands_at(&instrs, at) {
         return Err(NoReply::Absent(at));
     }
     let addresses = backward(alloc, &instrs, at)?;
-    Ok(slice_text(alloc, at, ROUND, LANE, &addresses, 0)?)
+    Ok(slice_text(alloc, at, ROUND, lane, &addresses, 0)?)
 }
 
 // Where a list begins.
-fn first_place(image: &Image, from: Option<u32>) -> u32
-    ensures { result ≡ place_of_first image.now from }
+fn first_place(place: u32, from: Option<u32>) -> u32
+    ensures { result ≡ place_of_first place from }
 {
     match from {
         Some(at) => at,
-        None => image.entry,
+        None => place,
     }
 }
 
-// The list of an image's instructions.
+// The list of the instructions of an image that is entered at this place.
 fn list_reply(
     alloc: Global,
     image: &Image,
+    place: u32,
     from: Option<u32>,
     steps: u32,
 ) -> Result<Vec<u8>, NoReply>
-    ensures { RepliesFrom image.now (kinds.List from steps) result }
+    ensures { RepliesFrom image.now place (λ entry. kinds.List entry from steps) result }
 {
-    let place = first_place(image, from);
-    if !image.is_code(place) {
-        return Err(NoReply::Absent(place));
+    let first = first_place(place, from);
+    if !image.is_code(first) {
+        return Err(NoReply::Absent(first));
     }
-    Ok(listing(alloc, image, place, steps)?)
+    Ok(listing(alloc, image, first, steps)?)
 }
 
 // The image of a file.
@@ -124,21 +146,24 @@ fn image_of(alloc: Global, file: &[u8]) -> Result<Image, NoReply>
 }
 
 // The reply to what is asked of a file.
-fn reply(alloc: Global, file: &[u8], task: Task) -> Result<Vec<u8>, NoReply>
+fn reply(alloc: Global, file: &[u8], task: &Task) -> Result<Vec<u8>, NoReply>
     requires { length file.now ≤ image_limit }
-    ensures { Replies file.now task result }
+    ensures { Replies file.now task.now result }
 {
     let image = image_of(alloc, file)?;
-    if !image.is_code(image.entry) {
-        return Err(NoReply::Entry);
-    }
     match task {
-        Task::Slice { at } => slice_reply(alloc, &image, at),
-        Task::List { from, steps } => list_reply(alloc, &image, from, steps),
+        Task::Slice { entry, at, lane } => {
+            let place = found_entry(&image, entry)?;
+            slice_reply(alloc, &image, place, *at, *lane)
+        }
+        Task::List { entry, from, steps } => {
+            let place = found_entry(&image, entry)?;
+            list_reply(alloc, &image, place, *from, *steps)
+        }
     }
 }
 
-impl From<NoReply> for Refusal<'_> {
+impl From<NoReply> for Refusal {
     ghost use Rattle.std.specs.Prelude.{◌≡◌};
     ghost use Rattle.surf_prog.specs.Answer.{refusal_of};
 
@@ -155,27 +180,45 @@ impl From<NoReply> for Refusal<'_> {
     }
 }
 
+impl From<WordsError> for Refusal {
+    ghost use Rattle.std.specs.Prelude.{◌≡◌};
+    ghost use Rattle.surf_prog.specs.Answer.{words_refusal};
+
+    ghost from_gives = { λ error refusal. refusal ≡ words_refusal error };
+
+    fn from(error: WordsError) -> Self {
+        match error {
+            WordsError::Refused => Refusal::Words,
+            WordsError::Memory => Refusal::Memory,
+        }
+    }
+}
+
 // Answers the request, up to the output.
-fn answer<'a, F: Shelf, K: Sink>(
+fn answer<F: Shelf, K: Sink>(
     alloc: Global,
-    words: &'a [String],
+    words: &[String],
     shelf: &mut F,
     out: &mut K,
-) -> Result<(), Refusal<'a>>
+) -> Result<(), Refusal>
     ensures { Answers (map string_bytes words.now) (F.file shelf.old) (F.faults shelf.old) (F.faults shelf.new)
         (K.written out.old) (K.written out.new) (λ text. WritesLines K.written K.faults out.old text out.new) (λ text. StopsInLine K.written K.faults out.old text out.new)
         (K.faults out.old) (K.faults out.new) result }
 {
-    let Some(request) = asked(words) else {
-        return Err(Refusal::Words);
+    let Request { name, task } = match request_of(alloc, words) {
+        Ok(request) => request,
+        Err(error) => return Err(Refusal::from(error)),
     };
-    let file = match shelf.read(alloc, request.name, IMAGE_LIMIT) {
+    let file = match shelf.read(alloc, name.as_str(), IMAGE_LIMIT) {
         Ok(file) => file,
-        Err(ShelfError::Failed) => return Err(Refusal::Shelf(request.name)),
-        Err(ShelfError::TooLong(_)) => return Err(Refusal::TooLong(request.name)),
+        Err(ShelfError::Failed) => return Err(Refusal::Shelf(name)),
+        Err(ShelfError::TooLong(_)) => return Err(Refusal::TooLong(name)),
         Err(ShelfError::Memory) => return Err(Refusal::Memory),
     };
-    let text = reply(alloc, &file, request.task)?;
+    let text = match reply(alloc, &file, &task) {
+        Ok(text) => text,
+        Err(none) => return Err(Refusal::from(none)),
+    };
     match write_lines(&text, out) {
         Ok(()) => Ok(()),
         Err(_) => Err(Refusal::Output),
@@ -202,8 +245,9 @@ pub fn once<F: Shelf, K: Sink, E: Sink>(
     // And wherever in a run of the file's image an occurrence at the criterion depends on another, the reply to a slice has that one's address.
     ensures dependences { result ≡ 0 → WritesDependences (map string_bytes words.now) (F.file shelf.old) (K.written out.old) (K.written out.new) }
 
-    // 2 exactly where the words ask for nothing.
-    ensures bad_words { (result ≡ 2) ↔ AsksNothing (map string_bytes words.now) }
+    // 2 only where the words ask for nothing, and where they do, 2 or 7: memory may be wanting before they are read.
+    ensures bad_words { result ≡ 2 → AsksNothing (map string_bytes words.now) }
+    ensures nothing_asked { AsksNothing (map string_bytes words.now) → (result ≡ 2) ⊎ (result ≡ 7) }
 
     // 3 only where the shelf's count for the name rose, or the file is longer than the limit.
     ensures shelf { result ≡ 3 → ForAsked (map string_bytes words.now) (λ name asked.
@@ -215,7 +259,7 @@ pub fn once<F: Shelf, K: Sink, E: Sink>(
     ensures image { WasRead result → ForAsked (map string_bytes words.now) (λ name asked. IfSome (F.file shelf.old name) (λ file. (result ≡ 4) ↔ ((cause : Cause) × HasNoImage file cause))) }
 
     // 5 exactly where it has an image and the entry isn't code; or where it is, and nothing stands at the address that is named.
-    ensures absent { WasRead result → ForAsked (map string_bytes words.now) (λ name asked. IfSome (F.file shelf.old name) (λ file. (result ≡ 5) ↔ (HasNoEntry file ⊎ ((at : ℕ) × IsAbsent file asked at)))) }
+    ensures absent { WasRead result → ForAsked (map string_bytes words.now) (λ name asked. IfSome (F.file shelf.old name) (λ file. (result ≡ 5) ↔ (HasNoEntry file asked ⊎ ((at : ℕ) × IsAbsent file asked at)))) }
 
     // 9 exactly where the code from the entry on of a file that was read isn't straight, and a slice is asked.
     ensures unsupported { WasRead result → ForAsked (map string_bytes words.now) (λ name asked. IfSome (F.file shelf.old name) (λ file. (result ≡ 9) ↔ ((at : ℕ) × IsUnsupported file asked at))) }
@@ -238,7 +282,7 @@ pub fn once<F: Shelf, K: Sink, E: Sink>(
     match answer(alloc, words, shelf, out) {
         Ok(()) => 0,
         Err(refusal) => {
-            complain(&refusal, err);
+            complain(alloc, &refusal, err);
             status(&refusal)
         }
     }

@@ -18,6 +18,7 @@ fn answers_lists(rt: HostRuntime) -> Result<(), Fail> {
         ("list a --at 0x08049000 --steps 00003", 0, THREE, ""),
         ("list a --at 0x0804901d", 0, LAST, ""),
         ("list a --at 0x08049019 --steps 2", 0, TWO, ""),
+        ("list a --entry 0x08049019 --steps=2", 0, TWO, ""),
         // Behind the code, and before it.
         ("list a --at 0x0804901e", 5, "", "surf: absent 0804901e\n"),
         ("list a --at 0x1000", 5, "", "surf: absent 00001000\n"),

@@ -11,6 +11,13 @@ const SUM_TEXT: &str =
 const SHORT_TEXT: &str =
     "slice 0804900a round 0 lane 2\n08049000\n0804900a\nend 2 addresses 0 warnings\n";
 
+// For call strings of another length, and entered behind the first instruction.
+const LANE_TEXT: &str =
+    "slice 0804900a round 0 lane 3\n08049000\n0804900a\nend 2 addresses 0 warnings\n";
+
+const ENTRY_TEXT: &str =
+    "slice 0804900c round 0 lane 2\n08049005\n0804900a\n0804900c\nend 3 addresses 0 warnings\n";
+
 // The code of a file that is loaded 00400000 higher.
 const MOVED_TEXT: &str =
     "slice 0844900c round 0 lane 2\n08449000\n08449005\n0844900a\n0844900c\nend 4 addresses 0 warnings\n";
@@ -33,6 +40,27 @@ fn answers_slices(rt: HostRuntime) -> Result<(), Fail> {
             0,
             SHORT_TEXT,
             "",
+        ),
+        (
+            [(0, 0x7f)],
+            "--lane 3 slice --round=0 a --at 0x0804900a",
+            0,
+            LANE_TEXT,
+            "",
+        ),
+        (
+            [(0, 0x7f)],
+            "slice a --entry 0x8049005 --at 0x0804900c --round 0",
+            0,
+            ENTRY_TEXT,
+            "",
+        ),
+        (
+            [(0, 0x7f)],
+            "slice a --entry nobody --at 0x0804900c --round 0",
+            5,
+            "",
+            "surf: absent entry\n",
         ),
         (
             [(16, 3)],
@@ -102,12 +130,13 @@ fn tells_where_code_isnt_straight(rt: HostRuntime) -> Result<(), Fail> {
 fn faults_of_the_outside(rt: HostRuntime) -> Result<(), Fail> {
     let alloc = rt.alloc();
     let head = "slice 0804900c round 0 lane 2\n";
-    let cases: [([&[u32]; 3], u8, &str, &str); 5] = [
+    let cases: [([&[u32]; 3], u8, &str, &str); 6] = [
         ([&[], &[2], &[]], 6, head, "surf: output\n"),
         ([&[], &[1], &[]], 6, "", "surf: output\n"),
         ([&[], &[7], &[]], 0, SUM_TEXT, ""),
         ([&[1], &[], &[]], 3, "", "surf: shelf a\n"),
         ([&[1], &[], &[1]], 3, "", ""),
+        ([&[1], &[], &[2]], 3, "", "surf: shelf a\n"),
     ];
     for (failing, status, out, err) in cases {
         let ended = request(alloc, code_file(alloc, &SUM)?, SUM_SLICE, failing)?;

@@ -2,7 +2,7 @@ use Rattle.std.proofs.Common.{◌≡◌, ℕ, List, refl, map, Ok, Err, arith}
 use Rattle.std.specs.String.{string_bytes}
 use Rattle.surf_base.specs.Sink.{Appends, WritesLines, StopsInLine}
 use Rattle.surf_prog.specs.Once.{TellsLine, WritesReply}
-use Rattle.surf_prog.proofs.RequestLaws.{statuses_hold, text_holds, bad_words_hold, shelf_holds, within_holds, image_holds, absent_holds, unsupported_holds, output_holds, part_holds, untouched_holds, complete_holds, silent_lines, told_lines}
+use Rattle.surf_prog.proofs.RequestLaws.{statuses_hold, text_holds, bad_words_hold, nothing_asked_holds, shelf_holds, within_holds, image_holds, absent_holds, unsupported_holds, output_holds, part_holds, untouched_holds, complete_holds, silent_lines, told_lines}
 use Rattle.surf_prog.proofs.RunReply.{reply_appends, writes_dependences}
 use Rattle.surf_prog.proofs.request.once.Goals as goal
 
@@ -29,6 +29,7 @@ returns-in-Ok g c =
       lines = lines;
       dependences = λ zero. writes_dependences words files old new (text zero);
       bad_words = bad_words_hold words files before now old new whole stops faults faults_now r 0 refl ended;
+      nothing_asked = nothing_asked_holds words files before now old new whole stops faults faults_now r 0 refl ended;
       shelf = λ three. absurd (omega arith);
       within = within_holds words files before now old new whole stops faults faults_now r 0 refl ended;
       image = image_holds words files before now old new whole stops faults faults_now r 0 refl ended;
@@ -71,6 +72,7 @@ returns-in-Err g c =
       lines = lines;
       dependences = λ zero. writes_dependences words files old new (text zero);
       bad_words = bad_words_hold words files before now old new whole stops faults faults_now r status is ended;
+      nothing_asked = nothing_asked_holds words files before now old new whole stops faults faults_now r status is ended;
       shelf = shelf_holds words files before now old new whole stops faults faults_now e status (TellsLine err err_now err_faults err_faults_now) is ended c.complain.ensures;
       within = within_holds words files before now old new whole stops faults faults_now r status is ended;
       image = image_holds words files before now old new whole stops faults faults_now r status is ended;
