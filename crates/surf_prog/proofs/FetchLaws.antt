@@ -9,8 +9,8 @@ use Rattle.image_map.specs.Whole.{IsImage}
 use Rattle.ia32_decode.specs.declared.NotDecoded.{NotDecoded}
 use Rattle.ia32_types.specs.declared.Instr.{Instr}
 use Rattle.ia32_types.specs.Spells.{Spells, Begins}
-use Rattle.surf_prog.specs.Fetch.{code_byte, begun_by, code_run, fetch_window, IsFetched}
-use Rattle.surf_prog.specs.Code.{HoldsCode}
+use Rattle.ia32_semantics.specs.Fetch.{code_byte, begun_by, code_run, fetch_window, IsFetched}
+use Rattle.surf_prog.specs.Straight.Bytes.{HoldsCode}
 use Rattle.surf_prog.proofs.SegmentLaws.{flagged_below}
 
 -- where a byte is known code, the run begins with it

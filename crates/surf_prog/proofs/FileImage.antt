@@ -1,5 +1,5 @@
 -- A file has one image, as far as its addresses show: images of one file have the same entry, the same code and the same bytes.
-use Rattle.std.proofs.Common.{◌≡◌, ℕ, zero, suc, ◌+◌, ◌^◌, ◌<◌, Bool, true, false, cond, List, [], ◌∷◌, Option, Some, None, Result, Ok, Err, refl, sym, ◌∙◌, ap, arith}
+use Rattle.std.proofs.Common.{◌≡◌, ℕ, zero, suc, ◌+◌, Bool, true, false, cond, List, [], ◌∷◌, Option, Some, None, Result, Ok, Err, refl, sym, ◌∙◌, ap, arith}
 use Rattle.std.specs.Prelude.{IfOk, MatchOption, bit_and, ◌==◌}
 use Rattle.std.proofs.lemmas.Bool.{false≢true}
 use Rattle.std.specs.Option.{option_map_or}
@@ -14,10 +14,10 @@ use Rattle.elf32.specs.Shapes.{Shape, shapes, in_shape}
 use Rattle.elf32.specs.Relocating.{Relocated}
 use Rattle.elf32.specs.Loading.{outcome, error_of, wrong_relocation, failure, Shows, Loads}
 use Rattle.elf32.proofs.Whole.{shown_image}
-use Rattle.surf_prog.specs.Fetch.{code_byte, begun_by, code_run}
+use Rattle.ia32_semantics.specs.Fetch.{code_byte, begun_by, code_run}
 use Rattle.command_words.specs.declared.line.Entry.{Entry}
 use Rattle.command_words.specs.declared.line.Entry.TheVariants as entries
-use Rattle.surf_prog.specs.Code.{most_code, code_of, HoldsCode}
+use Rattle.surf_prog.specs.Straight.Bytes.{most_code, code_of, HoldsCode}
 use Rattle.surf_prog.specs.Entry.{entry_place, Enters, LacksEntry}
 use Rattle.surf_prog.proofs.FetchLaws.{held_code}
 use Rattle.surf_prog.proofs.SegmentLaws.{flagged_below}

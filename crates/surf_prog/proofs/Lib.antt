@@ -1,10 +1,4 @@
-pub mod Places
-pub mod StraightGraph
-pub mod Backward
-pub mod Straight
-pub mod StraightStops
 pub mod OneBegins
-pub mod StraightPlaces
 pub mod SegmentLaws
 pub mod FetchLaws
 pub mod ListingLaws
@@ -14,14 +8,5 @@ pub mod RefusalLaws
 pub mod RequestLaws
 pub mod RisingLists
 pub mod OneAnswer
-pub mod RunArrows
-pub mod RunLaws
-pub mod RowsUndone
-pub mod PlacesOfRows
-pub mod StraightSteps
-pub mod StraightFetch
-pub mod StraightWalk
-pub mod StraightLaw
-pub mod StraightCompletes
-pub mod StraightStart
 pub mod RunReply
+pub mod StraightCode

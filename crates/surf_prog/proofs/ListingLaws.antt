@@ -8,7 +8,7 @@ use Rattle.std.specs.Fmt.{decimal}
 use Rattle.image_map.specs.declared.image.Image.{Image}
 use Rattle.ia32_types.specs.declared.Instr.{Instr}
 use Rattle.surf_prog.specs.Listing.{StandsAt, Follow, instr_line, listing_text, IsListing, IsTheListing}
-use Rattle.surf_prog.specs.Fetch.{fetch_window, IsFetched}
+use Rattle.ia32_semantics.specs.Fetch.{fetch_window, IsFetched}
 use Rattle.surf_prog.proofs.FetchLaws.{fetched_begins}
 use Rattle.surf_prog.proofs.OneBegins.{one_begins}
 

@@ -1,5 +1,5 @@
 -- A file answers a task in one way at most.
-use Rattle.std.proofs.Common.{◌≡◌, ℕ, zero, suc, ◌+◌, List, [], ◌∷◌, Option, Some, None, refl, sym, ◌∙◌, ap, subst}
+use Rattle.std.proofs.Common.{◌≡◌, ℕ, zero, suc, ◌+◌, List, [], ◌∷◌, Option, Some, sym, ◌∙◌, ap, subst}
 use Rattle.std.specs.Prelude.{false, take}
 use Rattle.ia32_types.specs.declared.Instr.{Instr}
 use Rattle.ia32_types.specs.Spells.{Spells}
@@ -7,15 +7,15 @@ use Rattle.image_map.specs.declared.image.Image.{Image}
 use Rattle.elf32.specs.Loading.{Loads}
 use Rattle.command_words.specs.declared.line.Entry.{Entry}
 use Rattle.surf_prog.specs.declared.words.Task.TheVariants as task
-use Rattle.surf_prog.specs.StraightCode.{StopsAt, straight_graph}
+use Rattle.surf_prog.specs.Straight.Code.{StopsAt, straight_graph}
 use Rattle.surf_prog.specs.Slicer.{IsSlice}
-use Rattle.surf_prog.specs.Fetch.{fetch_window, longest_instruction, IsFetched}
-use Rattle.surf_prog.specs.Code.{code_of}
+use Rattle.ia32_semantics.specs.Fetch.{fetch_window, longest_instruction, IsFetched}
+use Rattle.surf_prog.specs.Straight.Bytes.{code_of}
 use Rattle.surf_prog.specs.Listing.{StandsAt, Follow, IsListing}
 use Rattle.surf_prog.specs.Reply.{slice_text}
 use Rattle.surf_prog.specs.Once.{IsSliceReply, IsListReply, first_place}
 use Rattle.surf_prog.specs.OneAnswer.{RepliesAreOne, StopsAreOne, AbsencesAreOne, OutcomesExclude}
-use Rattle.surf_prog.proofs.StraightStops.{one_stop}
+use Rattle.surf_prog.proofs.StraightCode.StopLemmas.{one_stop}
 use Rattle.surf_prog.proofs.FileImage.{same_run, same_code_of, one_place}
 use Rattle.surf_prog.proofs.RisingLists.{same_rising}
 use Rattle.surf_prog.proofs.RequestLaws.{one_code, loads_passes, enters_once, reply_enters, absent_enters, unsupported_enters, absent_supported, reply_supported, reply_present}

@@ -18,8 +18,8 @@ use Rattle.surf_prog.specs.declared.request.NoReply.{NoReply}
 use Rattle.surf_prog.specs.declared.request.NoReply.TheVariants as none
 use Rattle.surf_prog.specs.declared.refusal.Refusal.{Refusal}
 use Rattle.surf_prog.specs.declared.refusal.Refusal.TheVariants as refusal
-use Rattle.surf_prog.specs.StraightCode.{IsStraight}
-use Rattle.surf_prog.specs.Code.{code_of}
+use Rattle.surf_prog.specs.Straight.Code.{IsStraight}
+use Rattle.surf_prog.specs.Straight.Bytes.{code_of}
 use Rattle.surf_prog.specs.Listing.{IsTheListing}
 use Rattle.surf_prog.specs.Once.{image_limit, HasCode, HasNode, HasList, first_place, IsListReply, IsReply, HasReply, HasNoImage, HasNoEntry, IsUnsupported, IsAbsent, TellsLine, WasRead, ForAsked, AsksNothing, WritesReply, IsStatus, WritesNothing, ErrorLines, shelf_line, too_long_line}
 use Rattle.command_words.specs.declared.line.Entry.{Entry}
@@ -27,9 +27,9 @@ use Rattle.surf_prog.specs.declared.words.Request.{Request}
 use Rattle.surf_prog.specs.Entry.{Enters}
 use Rattle.surf_prog.specs.Words.{Asks, entry_of}
 use Rattle.surf_prog.specs.Answer.{Asked, OfFile, Replies, Answers, refusal_of, line_of, status_of}
-use Rattle.surf_prog.proofs.Straight.{one_list}
-use Rattle.surf_prog.proofs.StraightGraph.{has_from, from_has}
-use Rattle.surf_prog.proofs.StraightStops.{straight_or_stops}
+use Rattle.surf_prog.proofs.StraightCode.ListLemmas.{one_list}
+use Rattle.surf_prog.proofs.StraightCode.GraphLemmas.{has_from, from_has}
+use Rattle.surf_prog.proofs.StraightCode.StopLemmas.{straight_or_stops}
 use Rattle.surf_prog.proofs.FileImage.{same_code, same_code_of, one_place, not_lacking}
 
 -- -- What a file answers: one thing at most

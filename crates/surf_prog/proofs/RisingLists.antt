@@ -3,7 +3,7 @@ use Rattle.std.proofs.Common.{◌≡◌, ◌⊎◌, inl, inr, ⊎_elim, ℕ, zer
 use Rattle.std.specs.Prelude.{Contains, slice_index}
 use Rattle.std.specs.List.Sorted.{IsStrictlyIncreasing}
 use Rattle.std.proofs.lemmas.List.Kept.{AllPairs-from_increasing}
-use Rattle.surf_prog.proofs.Places.{contains_here}
+use Rattle.surf_prog.proofs.StraightCode.SetLemmas.{contains_here}
 
 above : (x : ℕ) (xs : List ℕ) → IsStrictlyIncreasing (x ∷ xs) → (y : ℕ) → Contains xs y → x < y
 above x xs rising y c = subst (λ z. x < z) c.2 (AllPairs-from_increasing (x ∷ xs) rising 0 (suc c.0) y (omega arith) (omega (arith, c.1)))

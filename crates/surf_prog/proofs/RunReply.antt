@@ -10,13 +10,13 @@ use Rattle.surf_prog.specs.Entry.{Enters}
 use Rattle.surf_prog.specs.declared.words.Task.{Task}
 use Rattle.surf_prog.specs.declared.words.Task.TheVariants as task
 use Rattle.surf_prog.specs.Reply.{address_line, slice_head, slice_end, slice_text}
-use Rattle.surf_prog.specs.StraightCode.{IsStraight}
-use Rattle.surf_prog.specs.Code.{code_of}
+use Rattle.surf_prog.specs.Straight.Code.{IsStraight}
+use Rattle.surf_prog.specs.Straight.Bytes.{code_of}
 use Rattle.surf_prog.specs.Once.{IsSliceReply, IsReply, WritesReply}
-use Rattle.surf_prog.specs.RunReply.{entered_at, TellsAddress, TellsDependences, WritesDependences}
-use Rattle.surf_prog.specs.Ia32Run.{stands_at}
-use Rattle.surf_prog.proofs.StraightLaw.{slices_list_dependences}
-use Rattle.surf_prog.proofs.FileImage.{same_code_of, one_place, entered_too, entered_code}
+use Rattle.surf_prog.specs.RunReply.{TellsAddress, TellsDependences, WritesDependences}
+use Rattle.ia32_semantics.specs.Runs.{stands_at}
+use Rattle.surf_prog.proofs.StraightCode.LawLemmas.{slices_list_dependences}
+use Rattle.surf_prog.proofs.FileImage.{loaded_image, same_code_of, one_place, entered_too, entered_code}
 
 -- an element's lines stand among all lines
 told : (f : ℕ → List ℕ) (xs : List ℕ) (x k : ℕ) → k < length xs → get_or xs k x ≡ x → (rest : List ℕ) → (before : List ℕ) × (after : List ℕ) × (flat_map f xs ++ rest ≡ before ++ (f x ++ after))
@@ -32,15 +32,15 @@ slice_tells at round lane addresses warnings address c =
     (slice_head at round lane ++ r.0, r.1, ap (λ l. slice_head at round lane ++ l) r.2 ∙ sym (append_assoc (slice_head at round lane) r.0 (address_line address ++ r.1)))
 
 pub slice_tells_dependences : (file : List ℕ) (entry : Option Entry) (at lane : ℕ) (text : List ℕ) → IsSliceReply file entry at lane text → TellsDependences file (task.Slice entry at lane) text
-slice_tells_dependences file entry at lane text reply image loads place finds run is j i criterion source criterion_is there source_is depends =
+slice_tells_dependences file entry at lane text reply image loads settings finds run is j i criterion source criterion_is there source_is depends =
     let own = reply.code.image in
     let entered = reply.code.entered in
     let code = same_code_of file own image entered.loads loads reply.code.place in
     let moved = subst (λ c. IsStraight reply.code.place c reply.instrs) code reply.code.straight in
-    let here : Enters file entry image place = entered_too file entry own image reply.code.place place entered loads finds in
-    let straight = subst (λ e. IsStraight e (code_of image e) reply.instrs) (one_place file entry own image reply.code.place place entered here) moved in
+    let here : Enters file entry image settings.entry = entered_too file entry own image reply.code.place settings.entry entered loads finds in
+    let straight = subst (λ e. IsStraight e (code_of image e) reply.instrs) (one_place file entry own image reply.code.place settings.entry entered here) moved in
     let there_is =
-    slices_list_dependences image (entered_at place) (code_of image place) reply.instrs straight (entered_code file entry image place here) false at reply.addresses reply.slice
+    slices_list_dependences image settings (code_of image settings.entry) reply.instrs (loaded_image file image loads) straight (entered_code file entry image settings.entry here) false at reply.addresses reply.slice
     run is j i criterion source criterion_is there source_is depends in
     subst (λ t. TellsAddress t (stands_at source)) (sym reply.text_is) (slice_tells at 0 lane reply.addresses 0 (stands_at source) there_is)
 

@@ -7,7 +7,7 @@ use borrow.Author.Tests.{leb-true, ltb-true}
 use Rattle.image_map.specs.declared.image.Segment.{Segment}
 use Rattle.image_map.specs.Memory.{holds, segment_at, is_in}
 use Rattle.image_map.specs.Whole.{IsPlaced, ArePlaced}
-use Rattle.surf_prog.proofs.StraightPlaces.{both_of}
+use Rattle.surf_prog.proofs.StraightCode.PlaceLemmas.{both_of}
 
 -- segments lie below this address
 abbrev pub image_end : ℕ

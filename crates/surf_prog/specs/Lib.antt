@@ -2,10 +2,6 @@ pub mod FlowGraph
 pub mod DepGraph
 pub mod ControlWalks
 pub mod Slicer
-pub mod StraightCode
-pub mod Stretch
-pub mod Fetch
-pub mod Code
 pub mod Listing
 pub mod Words
 pub mod Entry
@@ -13,9 +9,5 @@ pub mod Reply
 pub mod Once
 pub mod Answer
 pub mod OneAnswer
-pub mod ImageMapState
-pub mod Ia32Machine
-pub mod Ia32Run
-pub mod RunPlaces
-pub mod StraightRuns
 pub mod RunReply
+pub mod Straight

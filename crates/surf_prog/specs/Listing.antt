@@ -6,7 +6,7 @@ use Rattle.image_map.specs.declared.image.Image.{Image}
 use Rattle.ia32_types.specs.declared.Instr.{Instr}
 use Rattle.ia32_print.specs.Text.{instr_text}
 use Rattle.surf_base.specs.Hex.{hex8_text}
-use Rattle.surf_prog.specs.Fetch.{IsFetched}
+use Rattle.ia32_semantics.specs.Fetch.{IsFetched}
 
 -- this instruction stands at an address of 32 bits
 abbrev pub StandsAt : Image → ℕ → Instr → Type 0

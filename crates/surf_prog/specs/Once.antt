@@ -10,13 +10,13 @@ use Rattle.image_map.specs.declared.image.Image.{Image}
 use Rattle.image_map.specs.Queries.{is_code}
 use Rattle.elf32.specs.declared.error.ElfError.{ElfError}
 use Rattle.elf32.specs.declared.error.ElfError.TheVariants as errors
-use Rattle.elf32.specs.Loading.{failure, Loads}
+use Rattle.elf32.specs.Loading.{failure}
 use Rattle.surf_prog.specs.declared.words.Task.{Task}
 use Rattle.surf_prog.specs.declared.words.Task.TheVariants as task
 use Rattle.surf_prog.specs.FlowGraph.{IsAt}
 use Rattle.surf_prog.specs.Slicer.{IsSlice}
-use Rattle.surf_prog.specs.StraightCode.{IsStraight, StopsAt, straight_graph}
-use Rattle.surf_prog.specs.Code.{code_of}
+use Rattle.surf_prog.specs.Straight.Code.{IsStraight, StopsAt, straight_graph}
+use Rattle.surf_prog.specs.Straight.Bytes.{code_of}
 use Rattle.surf_prog.specs.Listing.{IsTheListing}
 use Rattle.surf_prog.specs.Reply.{slice_text}
 use Rattle.surf_prog.specs.Entry.{Enters, LacksEntry}

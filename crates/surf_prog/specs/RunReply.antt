@@ -8,26 +8,26 @@ use Rattle.surf_prog.specs.declared.words.Task.TheVariants as task
 use Rattle.surf_prog.specs.Entry.{entry_place}
 use Rattle.surf_prog.specs.Once.{ForAsked}
 use Rattle.surf_prog.specs.Reply.{address_line}
-use Rattle.surf_prog.specs.Ia32Machine.{Settings}
-use Rattle.surf_prog.specs.Ia32Run.{Occurrence, stands_at, IsRun, Depends}
+use Rattle.image_map.specs.declared.region.Settings.{Settings}
+use Rattle.ia32_semantics.specs.Machine.{Occurrence}
+use Rattle.ia32_semantics.specs.Runs.{stands_at, IsRun}
+use Rattle.ia32_semantics.specs.Dependence.{Depends}
+use Rattle.ia32_semantics.specs.Step.{Act}
+use Rattle.ia32_semantics.specs.Ia32.{machine}
 
 -- the text has the line of this address
 abbrev pub TellsAddress : List ℕ → ℕ → Type 0
 TellsAddress text address = (before : List ℕ) × (after : List ℕ) × (text ≡ before ++ (address_line address ++ after))
 
--- an image is entered at this place
-abbrev pub entered_at : ℕ → Settings
-entered_at place = record { entry = place }
-
--- Wherever in a run of the file's image an occurrence at the criterion depends on another, the text tells the other's address.
--- (A list has no criterion.)
+-- Wherever in a run of the file's image an occurrence at the criterion depends on another, the text tells the other's address,
+-- whatever kinds its externs have. (A list has no criterion.)
 abbrev pub TellsDependences : List ℕ → Task → List ℕ → Type 0
 TellsDependences file (task.Slice entry at lane) text =
-    (image : Image) → Loads file image → (place : ℕ) → entry_place image entry ≡ Some place
-    → (run : List Occurrence) → IsRun image (entered_at place) run
-    → (j i : ℕ) (criterion source : Occurrence)
+    (image : Image) → Loads file image → (settings : Settings) → entry_place image entry ≡ Some settings.entry
+    → (run : List (Occurrence Act)) → IsRun (machine image settings) run
+    → (j i : ℕ) (criterion source : Occurrence Act)
     → slice_get run j ≡ Some criterion → stands_at criterion ≡ at → slice_get run i ≡ Some source
-    → Depends image (entered_at place) false run j i
+    → Depends (machine image settings) false run j i
     → TellsAddress text (stands_at source)
 TellsDependences file (task.List entry from steps) text = Unit {0}
 

@@ -3,7 +3,7 @@ ghost use Rattle.std.specs.Prelude.{◌≡◌, ◌≤◌, ◌↔◌, Some, take}
 ghost use Rattle.std.specs.Option.{option_copied};
 ghost use Rattle.image_map.specs.Memory.{holds, segment_at};
 ghost use Rattle.ia32_types.specs.declared.Instr.{Instr};
-ghost use Rattle.surf_prog.specs.Fetch.{code_byte, fetch_window, IsFetched};
+ghost use Rattle.ia32_semantics.specs.Fetch.{code_byte, fetch_window, IsFetched};
 
 use ia32_decode::decode;
 use ia32_types::Instr;

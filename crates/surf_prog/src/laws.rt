@@ -1,18 +1,6 @@
 // Laws of the definitions: what a file answers is one thing, and what the slice of straight code says of its runs.
 ghost use Rattle.surf_prog.specs.OneAnswer.{RepliesAreOne, StopsAreOne, AbsencesAreOne, OutcomesExclude};
-ghost use Rattle.surf_prog.specs.Ia32Machine.{StartsAreWhole};
-ghost use Rattle.surf_prog.specs.Ia32Run.{BeginningsAreRuns};
-ghost use Rattle.surf_prog.specs.RunPlaces.{ChangesOnlyWrites, WritesFollowReads};
-ghost use Rattle.surf_prog.specs.StraightRuns.{ImagesStart, StartsComplete, RunsExecuteInOrder, ReadsHaveEdges, SlicesListDependences};
-
-/// The laws of runs: each start is whole, each beginning of a run is a run, an occurrence changes what
-/// it writes or forgets and nothing else, and what it writes depends on what it reads alone.
-pub fn run_laws()
-    ensures whole { StartsAreWhole }
-    ensures changes { ChangesOnlyWrites }
-    ensures follows { WritesFollowReads }
-    ensures beginnings { BeginningsAreRuns }
-{}
+ghost use Rattle.surf_prog.specs.Straight.Runs.{ImagesStart, StartsComplete, RunsExecuteInOrder, ReadsHaveEdges, SlicesListDependences};
 
 /// The laws of straight code's runs. Each image has a start, and from each start straight code runs to
 /// its end. A run executes the instructions in order, what an occurrence reads was last written where an

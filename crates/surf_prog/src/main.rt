@@ -2,7 +2,6 @@
 #![tactic(auto)]
 
 mod adapters;
-mod code;
 mod entry;
 mod fetch;
 mod laws;
@@ -10,8 +9,7 @@ mod line;
 mod list;
 mod refusal;
 mod request;
-mod slice;
-mod straight_code;
+mod straight;
 mod text;
 mod words;
 

@@ -13,12 +13,12 @@ ghost use Rattle.surf_prog.specs.Once.{image_limit, first_place as place_of_firs
 ghost use Rattle.surf_prog.specs.RunReply.{WritesDependences};
 ghost use Rattle.surf_prog.specs.Answer.{Replies, RepliesFrom, FindsEntry, IsNoImage, Answers};
 
-use crate::code::code_of;
 use crate::entry::entry_place;
 use crate::list::listing;
 use crate::refusal::{Refusal, complain, status};
-use crate::slice::backward;
-use crate::straight_code::{StraightCode, straight_code};
+use crate::straight::bytes::code_of;
+use crate::straight::code::{StraightCode, straight_code};
+use crate::straight::slice::backward;
 use crate::text::slice_text;
 use crate::words::{Request, Task, request_of};
 use command_words::{Entry, WordsError};

@@ -1,6 +1,6 @@
 // Code and lists of small images.
 use super::listing;
-use crate::code::code_of;
+use crate::straight::bytes::code_of;
 use image_map::{Image, PF_R, PF_W, PF_X, Segment, Spans, Symbols};
 use item_list::Items;
 use std::alloc::{AllocError, Global};

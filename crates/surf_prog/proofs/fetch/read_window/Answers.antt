@@ -1,6 +1,6 @@
 use Rattle.std.proofs.Common.{◌≡◌, ◌+◌, ◌<◌, length, take, Some, None, inl, inr, sym, ◌∙◌, ap, arith}
 use Rattle.std.proofs.lemmas.List.{take_more_set, length-set}
-use Rattle.surf_prog.specs.Fetch.{code_byte}
+use Rattle.ia32_semantics.specs.Fetch.{code_byte}
 use Rattle.surf_prog.proofs.FetchLaws.{read_more, read_all}
 use Rattle.surf_prog.proofs.fetch.read_window.Goals as goal
 

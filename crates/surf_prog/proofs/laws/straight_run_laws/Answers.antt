@@ -1,7 +1,7 @@
 use Rattle.surf_prog.proofs.laws.straight_run_laws.Goals as goal
-use Rattle.surf_prog.proofs.StraightStart.{images_start}
-use Rattle.surf_prog.proofs.StraightCompletes.{starts_complete}
-use Rattle.surf_prog.proofs.StraightLaw.{runs_execute_in_order, reads_have_edges, slices_list_dependences}
+use Rattle.surf_prog.proofs.StraightCode.StartLemmas.{images_start}
+use Rattle.surf_prog.proofs.StraightCode.CompleteLemmas.{starts_complete}
+use Rattle.surf_prog.proofs.StraightCode.LawLemmas.{runs_execute_in_order, reads_have_edges, slices_list_dependences}
 
 pub returns : goal.returns
 returns c =

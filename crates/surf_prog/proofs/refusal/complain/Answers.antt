@@ -1,4 +1,4 @@
-use Rattle.std.proofs.Common.{◌≡◌, ℕ, sym, ◌∙◌, eqb-true}
+use Rattle.std.proofs.Common.{◌≡◌, sym, ◌∙◌, eqb-true}
 use Rattle.surf_prog.specs.Answer.{line_of}
 use Rattle.surf_prog.proofs.RefusalLaws.{whole_line, told_at_once}
 use Rattle.surf_prog.proofs.refusal.complain.Goals as goal

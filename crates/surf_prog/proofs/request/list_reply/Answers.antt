@@ -1,6 +1,6 @@
 use Rattle.std.proofs.Common.{◌≡◌, sym, ◌∙◌, true}
 use Rattle.image_map.specs.Queries.{is_code}
-use Rattle.surf_prog.proofs.RequestLaws.{file_list, list_absent}
+use Rattle.surf_prog.proofs.RequestLaws.{file_list}
 use Rattle.surf_prog.proofs.request.list_reply.Goals as goal
 
 pub returns : goal.returns

@@ -2,7 +2,7 @@ use Rattle.std.proofs.Common.{◌≡◌, List, refl, sym, ◌∙◌, ap, true, f
 use Rattle.std.specs.List.{list_any}
 use Rattle.std.specs.Prelude.{◌==◌}
 use Rattle.ia32_types.specs.declared.Instr.{Instr}
-use Rattle.surf_prog.specs.StraightCode.{IsStraight}
+use Rattle.surf_prog.specs.Straight.Code.{IsStraight}
 use Rattle.surf_prog.proofs.RequestLaws.{file_code, node_stands, no_node_stands}
 use Rattle.surf_prog.proofs.request.slice_reply.Goals as goal
 
