@@ -1,0 +1,4 @@
+pub mod FlowGraph
+pub mod Marked
+pub mod Rows
+pub mod Walks
