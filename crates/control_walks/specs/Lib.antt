@@ -1,0 +1,3 @@
+pub mod ControlWalks
+pub mod Floods
+pub mod Plain
