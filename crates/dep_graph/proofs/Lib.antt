@@ -1,0 +1,4 @@
+pub mod PairLemmas
+pub mod ListingLemmas
+pub mod SpreadLemmas
+pub mod PlaceLemmas

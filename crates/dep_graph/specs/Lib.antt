@@ -1,0 +1,2 @@
+pub mod DepGraph
+pub mod Edges

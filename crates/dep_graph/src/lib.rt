@@ -1,0 +1,16 @@
+//! The data edges of a flow graph: where what a node may define of a place may reach a node that may use it.
+//!
+//! For each place the nodes that may use it are taken 64 at a time, and each is followed back in a bit of its own as far as
+//! nodes don't define the place for certain.
+#![tactic(auto)]
+
+mod def_rows;
+mod edges;
+mod pairs;
+mod spread;
+
+pub use def_rows::{DefRows, reaching};
+pub use edges::{Edges, data_edges};
+
+#[cfg(test)]
+mod tests;
