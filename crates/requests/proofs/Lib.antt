@@ -1,0 +1,3 @@
+mod DigitLemmas
+mod ReadLemmas
+mod FilledLemmas
