@@ -1,0 +1,9 @@
+pub mod PartLemmas
+pub mod GatherLemmas
+pub mod MemberLemmas
+pub mod WordLemmas
+pub mod WorldLemmas
+pub mod SumLemmas
+pub mod BelowLemmas
+pub mod SameLemmas
+pub mod OffsetLemmas
