@@ -1,3 +1,4 @@
+pub mod PrefixListLemmas
 pub mod RunLemmas
 pub mod HonestLemmas
 pub mod FrontLemmas

@@ -9,6 +9,7 @@ ghost use Rattle.ia32_decode.specs.Decoded.{NoneBegins, SomeLonger, NoLonger, de
 mod bytes;
 mod forms;
 mod instruction;
+mod laws;
 mod memory;
 mod prefixes;
 mod rows;
@@ -18,6 +19,7 @@ mod tests;
 use crate::forms::finished;
 use crate::instruction::instruction;
 use ia32_types::Instr;
+pub use laws::{accepted_prefixes, group_forms};
 
 /// Why bytes were not decoded.
 #[derive(Clone, Copy, Debug, PartialEq, Eq)]
