@@ -1,0 +1,2 @@
+pub mod NodeKeys
+pub mod Nodes
