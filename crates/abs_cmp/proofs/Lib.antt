@@ -1,0 +1,4 @@
+pub mod RowLemmas
+pub mod SignLemmas
+pub mod CompareLemmas
+pub mod RefineLemmas
