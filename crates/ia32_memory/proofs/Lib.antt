@@ -1,0 +1,11 @@
+pub mod ReadLaws
+pub mod ShapeLaws
+pub mod EffectLaws
+pub mod WrittenLaws
+pub mod StartLaws
+mod ReadLemmas
+mod WriteLemmas
+mod ClearLemmas
+mod MakeLemmas
+mod StartLemmas
+mod ElementLemmas

@@ -1,0 +1,11 @@
+use Rattle.std.proofs.Common.{◌≡◌, ◌-◌}
+use Rattle.ia32_semantics.specs.Effects.{is_mapped}
+use Rattle.ia32_semantics.specs.Operands.{size}
+use Rattle.ia32_memory.specs.Mapped.{bytes_of}
+use Rattle.ia32_memory.specs.Changes.{all_in_elements}
+use Rattle.ia32_memory.proofs.memory.Memory.are_mapped.Given as goal
+
+abbrev pub invariant-loop : goal.invariant-loop
+invariant-loop l =
+    all_in_elements (is_mapped (bytes_of l.self)) l.elements.down (size l.elements.width) l.elements.count l.address
+    ≡ all_in_elements (is_mapped (bytes_of l.self)) l.elements.down (size l.elements.width) (l.end - l.counter) l.at
