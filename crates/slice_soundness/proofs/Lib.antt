@@ -1,0 +1,13 @@
+pub mod NodeLemmas
+pub mod StateLemmas
+pub mod RunLemmas
+pub mod WalkLemmas
+pub mod DataLemmas
+pub mod ControlLemmas
+pub mod ArrowLemmas
+pub mod ReturnLemmas
+pub mod TableLemmas
+pub mod ExampleLemmas
+pub mod ExampleCoverLemmas
+pub mod ExampleRunLemmas
+pub mod LocatedLemmas

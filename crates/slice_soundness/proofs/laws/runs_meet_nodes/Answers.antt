@@ -1,0 +1,6 @@
+-- The law, for whatever analysis.
+use Rattle.slice_soundness.proofs.laws.runs_meet_nodes.Goals as goal
+use Rattle.slice_soundness.proofs.WalkLemmas as lemma
+
+pub returns : goal.returns
+returns g c = lemma.runs_meet_nodes g.A.Analysis.machine g.A.Analysis.map
