@@ -15,6 +15,7 @@ RULES = [
     (r'flow_graph|dep_graph|control_walks|slicer|chops|matched_calls', r'ia32_\w+|image_map|elf32',
      'graphs and slices know nodes and places, and no machine'),
     (r'elf32|image_map|alocs|asi_cuts', r'ia32_\w+', 'files and memory know no instructions'),
+    (r'call_strings|last_writers', r'ia32_\w+|image_map|elf32', 'nodes and last writers are numbers alone'),
     (r'strided|si_bits', r'ia32_\w+|image_map|elf32', 'intervals are numbers alone'),
     (r'round_core|round_slots', r'ia32_\w+|image_map|elf32|flow_graph|dep_graph|slicer',
      'the store of rounds holds values of any type'),
