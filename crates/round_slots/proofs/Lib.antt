@@ -1,0 +1,10 @@
+pub mod ClaimLemmas
+pub mod EndLemmas
+pub mod JoinLemmas
+pub mod ListLemmas
+pub mod MoveLemmas
+pub mod PinLemmas
+pub mod RuleLemmas
+pub mod SitLemmas
+pub mod StepLemmas
+pub mod ViewLaws
