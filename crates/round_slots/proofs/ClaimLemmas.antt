@@ -1,5 +1,5 @@
 -- A claim whose exchange fails found a word that refuses it.
-use Rattle.std.proofs.Common.{◌≡◌, ◌≢◌, ℕ, ◌<◌, ◌==◌, Bool, true, false, cond, Option, Some, None, List, [], ◌∷◌, ◌++◌, length, refl, sym, ap, ◌∙◌, subst, inr, arith, get_or-set_same}
+use Rattle.std.proofs.Common.{◌≡◌, ◌≢◌, ℕ, ◌<◌, ◌==◌, Bool, true, false, cond, Option, Some, None, [], ◌∷◌, refl, sym, ap, ◌∙◌, subst, inr, arith, get_or-set_same}
 use Rattle.std.proofs.lemmas.Bool.{eqb-true}
 use Rattle.std.proofs.lemmas.Option.{none-some}
 use Rattle.std.specs.List.{AllByRecursion}
@@ -8,12 +8,10 @@ use Rattle.atomic_table.specs.Seated.{TableId}
 use Rattle.round_core.specs.declared.word.Word.{Word}
 use Rattle.round_core.specs.Laws.{IsNoNewer}
 use Rattle.round_slots.specs.declared.view.LaneView.{LaneView}
-use Rattle.round_slots.specs.declared.view.Known.{Known}
 use Rattle.round_slots.specs.declared.view.Key.{Key}
 use Rattle.round_slots.specs.declared.store.ClaimRefused.{ClaimRefused}
 use Rattle.round_slots.specs.declared.store.ClaimRefused.TheVariants.{Busy, Moved}
 use Rattle.round_slots.specs.View.{no_view, lane_of, with_lane, saw}
-use Rattle.round_slots.specs.Rule.{AgreesWith}
 use Rattle.round_slots.specs.Seats.{Place, Sits, Loads, view_in}
 use Rattle.round_slots.specs.Claims.{refusal, Refuses}
 use Rattle.round_slots.proofs.ListLemmas.{all_right}
@@ -53,6 +51,7 @@ module _ {G : Type 0} (possible : G → ℕ → ℕ → Type 0) (id : TableId) (
         let slots : found.slot ≡ w.slot = sym (newer.slot (sym rounds)) in
         let marks : found.claimed ≡ w.claimed = b.1 ∙ sym a.1 in
         λ j. let x : Word = record { round = rounds j; claimed = marks j; slot = slots j } in x
+
     at : (o : Option ClaimRefused) → refusal round found ≡ o → Refuses key old new lane round cause
     at None e = absurd (other (same e))
     at (Some d) e = inr (record { loaded = w; found = found; between = between; loads = l; free = free; finds = m; other = other; refuses = e ∙ ap Some (sym (h ∙ ap (λ o. unwrap_or o (Busy round)) e)) })

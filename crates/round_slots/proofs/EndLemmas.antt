@@ -1,25 +1,22 @@
 -- The rule at the start; the first values; and what the last words bound.
-use Rattle.std.proofs.Common.{◌≡◌, ◌≢◌, ℕ, zero, suc, ◌+◌, ◌<◌, ◌≤◌, Bool, false, Option, Some, None, List, [], ◌∷◌, ◌++◌, length, replicate, take, get_or, set, refl, sym, ap, ◌∙◌, subst, arith, get_or-set_same, get_or-set_other}
+use Rattle.std.proofs.Common.{◌≡◌, ℕ, zero, suc, ◌+◌, ◌<◌, ◌≤◌, Bool, false, Option, Some, None, List, [], ◌∷◌, ◌++◌, length, replicate, take, get_or, set, refl, sym, ap, ◌∙◌, subst, arith, get_or-set_same, get_or-set_other}
 use mathlib.Core.Logic.{dite}
 use native.Mathlib.Decide.{ℕ_discrete}
-use mathlib.Core.Option.{some, none, some-injective, some-ne-none}
-use mathlib.Core.Option as maybe
+use mathlib.Core.Option.{some, some-injective, some-ne-none}
 use lib.ListN.{get_elem?, length-replicate, get_or-replicate}
 use Rattle.std.specs.Prelude.{Vec}
 use Rattle.std.specs.declared.alloc.Global.{Global}
 use Rattle.std.specs.List.{All, AllByRecursion}
 use Rattle.std.proofs.lemmas.Option.{none-some, same_Some}
-use Rattle.atomic_table.specs.Table.{State, opening, Final, Seen}
+use Rattle.atomic_table.specs.Table.{opening, Final, Seen}
 use Rattle.atomic_table.specs.Seated.{TableId}
-use Rattle.round_core.specs.declared.word.Word.{Word}
 use Rattle.round_core.specs.Word.{unpacked}
 use Rattle.round_core.specs.Laws.{IsNoNewer}
-use Rattle.round_slots.specs.declared.view.LaneView.{LaneView}
 use Rattle.round_slots.specs.declared.view.LaneTag.{LaneTag}
 use Rattle.round_slots.specs.declared.view.Known.{Known}
 use Rattle.round_slots.specs.declared.view.Key.{Key}
 use Rattle.round_slots.specs.View.{no_view, lane_of, first_view}
-use Rattle.round_slots.specs.Rule.{AgreesWith, IsApart, word_of, Knows, Keeps}
+use Rattle.round_slots.specs.Rule.{AgreesWith, word_of, Knows, Keeps}
 use Rattle.round_slots.specs.Seats.{Place, HasSeen, HasNoTurn, Sits, view_in}
 use Rattle.round_slots.specs.Rows.{Admits, AreRows}
 use Rattle.round_slots.specs.Joins.{gathered_lane, gathered, merged, fresh}
@@ -27,7 +24,7 @@ use Rattle.round_slots.specs.Ends.{AreFirst, AreAdmitted, IsFresh, IsSeat, IsBou
 use Rattle.round_slots.specs.Claims.{front_of}
 use Rattle.round_slots.specs.declared.store.Front.{Front}
 use Rattle.std.proofs.lemmas.List.Elements.{All-from_recursion}
-use Rattle.round_slots.proofs.ListLemmas.{all_map, all_append, all_left, all_right}
+use Rattle.round_slots.proofs.ListLemmas.{all_map, all_left, all_right}
 use Rattle.round_slots.proofs.JoinLemmas.{merged_length, merged_at}
 use Rattle.round_slots.proofs.PinLemmas.{admits, plus_zero, plus_suc, zero_plus}
 
@@ -48,11 +45,12 @@ get_of (x ∷ xs) (suc i) a d e = get_of xs i a d e
 -- one more lane's front
 pub fronts_more : (P : ℕ → Option Front → Type 0) (xs : List (Option Front)) (i : ℕ) (x : Option Front) → i < length xs → ((k : ℕ) → k < i → P k (get_or xs k None)) → ((k : ℕ) → i ≤ k → get_or xs k None ≡ None) → P i x
     → ((k : ℕ) → k < i + 1 → P k (get_or (set xs i x) k None)) × ((k : ℕ) → i + 1 ≤ k → get_or (set xs i x) k None ≡ None)
-fronts_more P xs i x lt before after here =
-    ((λ k h. dite (ℕ_discrete k i)
-        (λ e. subst (λ m. P m (get_or (set xs i x) m None)) (sym e) (subst (P i) (sym (get_or-set_same xs i x None lt)) here))
-        (λ ne. subst (P k) (sym (get_or-set_other xs i k x None ne)) (before k (omega (arith, h, ne))))),
-    (λ k h. get_or-set_other xs i k x None (λ e. omega (arith, h, e)) ∙ after k (omega (arith, h))))
+fronts_more P xs i x lt before after here = (
+  (λ k h. dite (ℕ_discrete k i)
+      (λ e. subst (λ m. P m (get_or (set xs i x) m None)) (sym e) (subst (P i) (sym (get_or-set_same xs i x None lt)) here))
+      (λ ne. subst (P k) (sym (get_or-set_other xs i k x None ne)) (before k (omega (arith, h, ne))))),
+  (λ k h. get_or-set_other xs i k x None (λ e. omega (arith, h, e)) ∙ after k (omega (arith, h))),
+)
 
 pub first_words : (n : ℕ) → n ≤ 4 → take {A = ℕ} n (0 ∷ 0 ∷ 0 ∷ 0 ∷ []) ≡ replicate n 0
 first_words zero h = refl
@@ -66,17 +64,20 @@ module _ {G : Type 0} where
   -- no seat has done anything, and the words are of round 0
   pub opens : (possible : G → ℕ → ℕ → Type 0) (key : Key G) (words : List ℕ) → words ≡ replicate key.lanes 0 → ((l : ℕ) → l < key.lanes → possible key.tag.value l 0) → Keeps key possible (opening words [] (first_view key))
   opens possible key words e p = record {
-      lanes = ap length e ∙ length-replicate key.lanes 0;
-      rounds = λ l h. subst (λ w. possible key.tag.value l w.round) (sym (word_is l h)) (p l h);
-      knows = λ i v at. subst (Knows key words) (same_Some first v (only_one (Some first) (Some v) i at).1) own;
-      apart = λ i j v w ne at other. absurd (ne ((only_one (Some first) (Some v) i at).0 ∙ sym (only_one (Some first) (Some w) j other).0));
-    } where
+    lanes = ap length e ∙ length-replicate key.lanes 0;
+    rounds = λ l h. subst (λ w. possible key.tag.value l w.round) (sym (word_is l h)) (p l h);
+    knows = λ i v at. subst (Knows key words) (same_Some first v (only_one (Some first) (Some v) i at).1) own;
+    apart = λ i j v w ne at other. absurd (ne ((only_one (Some first) (Some v) i at).0 ∙ sym (only_one (Some first) (Some w) j other).0));
+  } where
     first : Known G
     first = record { tag = key.tag.value; seats = key.seats; lanes = replicate key.lanes no_view }
+
     word_is : (l : ℕ) → l < key.lanes → word_of words l ≡ unpacked 0
     word_is l h = ap (λ ws. word_of ws l) e ∙ ap unpacked (get_or-replicate key.lanes l 0 0 h)
+
     agrees : AgreesWith key.seats (unpacked 0) no_view
     agrees = record { seen = tt; made = tt; distinct = tt; turn = λ x q. absurd (none-some x q); only = λ one. refl }
+
     own : Knows key words first
     own = record {
       tag = refl;
@@ -88,16 +89,16 @@ module _ {G : Type 0} where
   -- a seat that has done nothing is one of the store
   pub fresh_sits : (possible : G → ℕ → ℕ → Type 0) (id : TableId) (key : Key G) (p : Place G) → IsFresh id key p → Sits possible id key p
   fresh_sits possible id key p h = record {
-      table = h.0;
-      empty = ap (λ m. m.1) h.1;
-      view = first;
-      is_view = ap (λ m. m.0) h.1;
-      tag = refl;
-      seats = refl;
-      lanes = length-replicate key.lanes no_view;
-      seen = λ l lt. subst (λ o. HasSeen possible key.tag.value l (lane_of o l)) (sym (ap (λ m. m.0) h.1))
-          (subst (HasSeen possible key.tag.value l) (sym (get_or-replicate key.lanes l no_view no_view lt)) (record { rising = tt; rounds = tt }));
-    } where
+    table = h.0;
+    empty = ap (λ m. m.1) h.1;
+    view = first;
+    is_view = ap (λ m. m.0) h.1;
+    tag = refl;
+    seats = refl;
+    lanes = length-replicate key.lanes no_view;
+    seen = λ l lt. subst (λ o. HasSeen possible key.tag.value l (lane_of o l)) (sym (ap (λ m. m.0) h.1))
+        (subst (HasSeen possible key.tag.value l) (sym (get_or-replicate key.lanes l no_view no_view lt)) (record { rising = tt; rounds = tt }));
+  } where
     first : Known G
     first = record { tag = key.tag.value; seats = key.seats; lanes = replicate key.lanes no_view }
 
@@ -127,10 +128,11 @@ module _ {G : Type 0} where
       → (xs : List T) (rows : List (Vec (LaneTag G) Global)) (lane : ℕ) → AreFirst belongs number tag lane xs → AreRows key lane rows → length rows ≡ length xs → AreAdmitted belongs xs rows
   first_admitted belongs number key tag e [] rows lane h r n = tt
   first_admitted belongs number key tag e (x ∷ xs) [] lane h r n = absurd (omega arith)
-  first_admitted belongs number key tag e (x ∷ xs) (row ∷ rows) lane h r n =
-      (admits belongs key lane x row.items r.0 (subst (λ g. belongs g lane x) e h.0),
-      omega (arith, r.0.0),
-      first_admitted belongs number key tag e xs rows (lane + 1) h.2 r.1 (omega arith))
+  first_admitted belongs number key tag e (x ∷ xs) (row ∷ rows) lane h r n = (
+    admits belongs key lane x row.items r.0 (subst (λ g. belongs g lane x) e h.0),
+    omega (arith, r.0.0),
+    first_admitted belongs number key tag e xs rows (lane + 1) h.2 r.1 (omega arith),
+  )
 
   pub admitted_front : {T : Type 0} (belongs : G → ℕ → T → Type 0) (xs ys : List T) (rows : List (Vec (LaneTag G) Global)) → AreAdmitted belongs (xs ++ ys) rows → AreAdmitted belongs xs rows
   admitted_front belongs [] ys rows h = tt
@@ -163,27 +165,34 @@ module _ {G : Type 0} where
   -- one seat that has seen all that two saw
   pub gathers : (id : TableId) (key : Key G) (old other new : Place G) → IsSeat id key old → IsSeat id key other → new.table_id ≡ old.table_id → new.me ≡ (gathered old.me.0 other.me.0, old.me.1)
       → IsSeat id key new × ((l : ℕ) → l < key.lanes → IsCovered new old l × IsCovered new other l)
-  gathers id key old other new s t same me =
-      (record {
-        table = same ∙ s.table;
-        empty = ap (λ m. m.1) me ∙ s.empty;
-        view = v;
-        is_view = is;
-        lanes = merged_length gathered_lane s.view.lanes t.view.lanes ∙ s.lanes;
-      },
-      λ l h. ((λ n b. subst (IsBounded n) (sym (ap (λ o. lane_of o l) s.is_view)) (left l n (lane l h n b))),
-        (λ n b. subst (IsBounded n) (sym (ap (λ o. lane_of o l) t.is_view)) (right l n (lane l h n b)))))
+  gathers id key old other new s t same me = (
+    record {
+      table = same ∙ s.table;
+      empty = ap (λ m. m.1) me ∙ s.empty;
+      view = v;
+      is_view = is;
+      lanes = merged_length gathered_lane s.view.lanes t.view.lanes ∙ s.lanes;
+    },
+    λ l h. (
+      (λ n b. subst (IsBounded n) (sym (ap (λ o. lane_of o l) s.is_view)) (left l n (lane l h n b))),
+      (λ n b. subst (IsBounded n) (sym (ap (λ o. lane_of o l) t.is_view)) (right l n (lane l h n b))),
+    ),
+  )
     where
-    v : Known G
-    v = record s.view { lanes = merged gathered_lane s.view.lanes t.view.lanes }
-    is : new.me.0 ≡ Some v
-    is = ap (λ m. m.0) me ∙ (λ j. gathered (s.is_view j) (t.is_view j))
-    lane : (l : ℕ) → l < key.lanes → (n : ℕ) → IsBounded n (view_in new l) → IsBounded n (gathered_lane (lane_of (Some s.view) l) (lane_of (Some t.view) l))
-    lane l h n b = subst (IsBounded n) (merged_at gathered_lane s.view.lanes t.view.lanes l no_view (omega (arith, s.lanes)) (s.lanes ∙ sym t.lanes)) (subst (λ o. IsBounded n (lane_of o l)) is b)
-    left : (l n : ℕ) → IsBounded n (gathered_lane (lane_of (Some s.view) l) (lane_of (Some t.view) l)) → IsBounded n (lane_of (Some s.view) l)
-    left l n b = record { seen = all_left (λ w. w.round ≤ n) (lane_of (Some s.view) l).seen (lane_of (Some t.view) l).seen b.seen; made = all_left (λ m. m ≤ n) (lane_of (Some s.view) l).made (lane_of (Some t.view) l).made b.made }
-    right : (l n : ℕ) → IsBounded n (gathered_lane (lane_of (Some s.view) l) (lane_of (Some t.view) l)) → IsBounded n (lane_of (Some t.view) l)
-    right l n b = record { seen = all_right (λ w. w.round ≤ n) (lane_of (Some s.view) l).seen (lane_of (Some t.view) l).seen b.seen; made = all_right (λ m. m ≤ n) (lane_of (Some s.view) l).made (lane_of (Some t.view) l).made b.made }
+      v : Known G
+      v = record s.view { lanes = merged gathered_lane s.view.lanes t.view.lanes }
+
+      is : new.me.0 ≡ Some v
+      is = ap (λ m. m.0) me ∙ (λ j. gathered (s.is_view j) (t.is_view j))
+
+      lane : (l : ℕ) → l < key.lanes → (n : ℕ) → IsBounded n (view_in new l) → IsBounded n (gathered_lane (lane_of (Some s.view) l) (lane_of (Some t.view) l))
+      lane l h n b = subst (IsBounded n) (merged_at gathered_lane s.view.lanes t.view.lanes l no_view (omega (arith, s.lanes)) (s.lanes ∙ sym t.lanes)) (subst (λ o. IsBounded n (lane_of o l)) is b)
+
+      left : (l n : ℕ) → IsBounded n (gathered_lane (lane_of (Some s.view) l) (lane_of (Some t.view) l)) → IsBounded n (lane_of (Some s.view) l)
+      left l n b = record { seen = all_left (λ w. w.round ≤ n) (lane_of (Some s.view) l).seen (lane_of (Some t.view) l).seen b.seen; made = all_left (λ m. m ≤ n) (lane_of (Some s.view) l).made (lane_of (Some t.view) l).made b.made }
+
+      right : (l n : ℕ) → IsBounded n (gathered_lane (lane_of (Some s.view) l) (lane_of (Some t.view) l)) → IsBounded n (lane_of (Some t.view) l)
+      right l n b = record { seen = all_right (λ w. w.round ≤ n) (lane_of (Some s.view) l).seen (lane_of (Some t.view) l).seen b.seen; made = all_right (λ m. m ≤ n) (lane_of (Some s.view) l).made (lane_of (Some t.view) l).made b.made }
 
   -- the seats from the end on that one seat has taken in
   pub record Gathered {X : Type 0} (id : TableId) (key : Key G) (place : X → Place G) (all rest : List X) (by : Place G) : Type 0 where
@@ -217,10 +226,14 @@ module _ {G : Type 0} where
   pub closes : (possible : G → ℕ → ℕ → Type 0) (id : TableId) (key : Key G) (p : Place G) (ws : List ℕ) (xs : List (Unit {0})) → IsSeat id key p → Final (Seen (Keeps key possible) p.id p.me.0) ws xs
       → (l : ℕ) → l < key.lanes → possible key.tag.value l (word_of ws l).round × IsBounded (word_of ws l).round (view_in p l)
   closes possible id key p ws xs s f l h = let r = f.1.0 in let k = r.knows p.id s.view (f.1.1 ∙ ap some s.is_view) in let g = k.agrees l h in
-      subst (λ us. possible key.tag.value l (word_of us l).round × IsBounded (word_of us l).round (view_in p l)) f.2
-          (r.rounds l h, subst (λ o. IsBounded (word_of f.0.words l).round (lane_of o l)) (sym s.is_view)
-          (record { seen = all_map (λ x. IsNoNewer x (word_of f.0.words l)) (λ x. x.round ≤ (word_of f.0.words l).round) (λ x t. t.round) (lane_of (Some s.view) l).seen g.seen;
-            made = all_map (λ n. (1 ≤ n) × (n ≤ (word_of f.0.words l).round)) (λ n. n ≤ (word_of f.0.words l).round) (λ n t. t.1) (lane_of (Some s.view) l).made g.made }))
+      subst (λ us. possible key.tag.value l (word_of us l).round × IsBounded (word_of us l).round (view_in p l)) f.2 (
+        r.rounds l h,
+        subst (λ o. IsBounded (word_of f.0.words l).round (lane_of o l)) (sym s.is_view)
+            (record {
+              seen = all_map (λ x. IsNoNewer x (word_of f.0.words l)) (λ x. x.round ≤ (word_of f.0.words l).round) (λ x t. t.round) (lane_of (Some s.view) l).seen g.seen;
+              made = all_map (λ n. (1 ≤ n) × (n ≤ (word_of f.0.words l).round)) (λ n. n ≤ (word_of f.0.words l).round) (λ n t. t.1) (lane_of (Some s.view) l).made g.made;
+            }),
+      )
 
   pub ends_at : {X : Type 0} (possible : G → ℕ → ℕ → Type 0) (id : TableId) (key : Key G) (place : X → Place G) (seats : List X) (p : Place G) (ws : List ℕ) (xs : List (Unit {0})) (lane found : ℕ) (front : Option Front)
       → IsSeat id key p → Final (Seen (Keeps key possible) p.id p.me.0) ws xs

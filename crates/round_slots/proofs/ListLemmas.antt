@@ -38,9 +38,10 @@ module _ {X : Type 0} where
 -- numbers that are apart, whichever list comes first
 pub apart_sym : (ms ns : List ℕ) → AreApart ms ns → AreApart ns ms
 apart_sym ms [] h = tt
-apart_sym ms (n ∷ ns) h =
-    (all_map (λ m. AllByRecursion (λ k. m ≢ k) (n ∷ ns)) (λ m. n ≢ m) (λ m t. λ e. t.0 (sym e)) ms h,
-    apart_sym ms ns (all_map (λ m. AllByRecursion (λ k. m ≢ k) (n ∷ ns)) (λ m. AllByRecursion (λ k. m ≢ k) ns) (λ m t. t.1) ms h))
+apart_sym ms (n ∷ ns) h = (
+  all_map (λ m. AllByRecursion (λ k. m ≢ k) (n ∷ ns)) (λ m. n ≢ m) (λ m t. λ e. t.0 (sym e)) ms h,
+  apart_sym ms ns (all_map (λ m. AllByRecursion (λ k. m ≢ k) (n ∷ ns)) (λ m. AllByRecursion (λ k. m ≢ k) ns) (λ m t. t.1) ms h),
+)
 
 pub apart_nil : (ms : List ℕ) → AreApart ms []
 apart_nil ms = all_every (λ m. AllByRecursion (λ n. m ≢ n) []) (λ m. tt) ms

@@ -1,5 +1,5 @@
 -- The four kinds of steps on a lane's word: a load, a claim, a giving up and a publishing.
-use Rattle.std.proofs.Common.{◌≡◌, ◌≢◌, ℕ, ◌+◌, ◌<◌, ◌≤◌, Bool, true, false, IsTrue, Option, Some, None, List, [], ◌∷◌, ◌++◌, refl, sym, ap, ◌∙◌, subst, arith}
+use Rattle.std.proofs.Common.{◌≡◌, ◌≢◌, ℕ, ◌+◌, ◌≤◌, Bool, true, false, IsTrue, Some, [], ◌∷◌, ◌++◌, refl, sym, subst, arith}
 use Rattle.std.proofs.lemmas.Option.{none-some, same_Some}
 use Rattle.std.proofs.lemmas.Bool.{false≢true}
 use Rattle.std.specs.List.{AllByRecursion}
@@ -8,7 +8,7 @@ use Rattle.round_core.specs.Laws.{IsNoNewer}
 use Rattle.round_slots.specs.declared.view.LaneView.{LaneView}
 use Rattle.round_slots.specs.declared.view.Key.{Key}
 use Rattle.round_slots.specs.View.{saw, marked, unmarked, next_word, claimed, gave_up, published}
-use Rattle.round_slots.specs.Rule.{AgreesWith, IsApart}
+use Rattle.round_slots.specs.Rule.{AgreesWith}
 use Rattle.round_slots.proofs.ListLemmas.{all_map, all_append, apart_snoc, no_repeat_snoc, last_snoc}
 use Rattle.round_slots.proofs.RuleLemmas.{Moves}
 
@@ -88,29 +88,31 @@ module _ {G : Type 0} (possible : G → ℕ → ℕ → Type 0) (key : Key G) (l
   pub publishes : (w : Word) (a : LaneView) (slot : ℕ) → a.turn ≡ Some w → AgreesWith key.seats w a → possible key.tag.value lane (w.round + 1)
       → Moves possible key lane w (next_word w slot) a (published a w (next_word w slot))
   publishes w a slot turn h p = record {
-      rounds = p;
-      mine = record {
-        seen = no_newer a w to newer h.seen;
-        made = all_append (λ n. (1 ≤ n) × (n ≤ to.round)) a.made (to.round ∷ []) (all_map _ _ grown a.made h.made) ((omega arith, omega arith), tt);
-        distinct = no_repeat_snoc a.made to.round h.distinct (all_map (λ n. (1 ≤ n) × (n ≤ w.round)) (λ n. n ≢ to.round) (λ n t. λ e. omega (arith, t.1, e)) a.made h.made);
-        turn = λ x e. absurd (none-some x e);
-        only = λ one. sym (last_snoc 0 a.made to.round);
-      };
-      others = λ b many apart agrees. record {
-        seen = all_map (λ x. IsNoNewer x w) (λ x. IsNoNewer x to) newer b.seen agrees.seen;
-        made = all_map _ _ grown b.made agrees.made;
-        distinct = agrees.distinct;
-        turn = λ x e. absurd (apart.turns w x turn e);
-        only = λ one. absurd (omega (arith, one, many));
-      };
-      apart = λ b many apart agrees. record {
-        turns = λ x y e f. absurd (none-some x e);
-        made = apart_snoc a.made b.made to.round apart.made (all_map (λ n. (1 ≤ n) × (n ≤ w.round)) (λ n. to.round ≢ n) (λ n t. λ e. omega (arith, t.1, e)) b.made agrees.made);
-      };
-    } where
+    rounds = p;
+    mine = record {
+      seen = no_newer a w to newer h.seen;
+      made = all_append (λ n. (1 ≤ n) × (n ≤ to.round)) a.made (to.round ∷ []) (all_map _ _ grown a.made h.made) ((omega arith, omega arith), tt);
+      distinct = no_repeat_snoc a.made to.round h.distinct (all_map (λ n. (1 ≤ n) × (n ≤ w.round)) (λ n. n ≢ to.round) (λ n t. λ e. omega (arith, t.1, e)) a.made h.made);
+      turn = λ x e. absurd (none-some x e);
+      only = λ one. sym (last_snoc 0 a.made to.round);
+    };
+    others = λ b many apart agrees. record {
+      seen = all_map (λ x. IsNoNewer x w) (λ x. IsNoNewer x to) newer b.seen agrees.seen;
+      made = all_map _ _ grown b.made agrees.made;
+      distinct = agrees.distinct;
+      turn = λ x e. absurd (apart.turns w x turn e);
+      only = λ one. absurd (omega (arith, one, many));
+    };
+    apart = λ b many apart agrees. record {
+      turns = λ x y e f. absurd (none-some x e);
+      made = apart_snoc a.made b.made to.round apart.made (all_map (λ n. (1 ≤ n) × (n ≤ w.round)) (λ n. to.round ≢ n) (λ n t. λ e. omega (arith, t.1, e)) b.made agrees.made);
+    };
+  } where
     to : Word
     to = next_word w slot
+
     newer : (x : Word) → IsNoNewer x w → IsNoNewer x to
     newer x h = let r = h.round in record { round = omega (arith, r); slot = λ e. absurd (omega (arith, r, e)) }
+
     grown : (n : ℕ) → (1 ≤ n) × (n ≤ w.round) → (1 ≤ n) × (n ≤ to.round)
     grown n t = (t.0, omega (arith, t.1))

@@ -3,7 +3,6 @@ use Rattle.std.proofs.Common.{◌≡◌, ℕ, zero, suc, ◌+◌, ◌<◌, Optio
 use lib.Seq.{set-get_or}
 use Rattle.std.specs.Prelude.{Vec}
 use Rattle.std.specs.declared.alloc.Global.{Global}
-use Rattle.std.specs.List.{AllByRecursion}
 use Rattle.std.proofs.lemmas.List.Elements.{All-from_recursion}
 use Rattle.atomic_table.specs.Seated.{TableId}
 use Rattle.round_core.specs.declared.word.Word.{Word}
@@ -73,13 +72,17 @@ module _ {G : Type 0} where
         → Becomes old mid lane (saw (view_in old lane) ws) → Loads key mid new lane w
         → AgreesWith key.seats w (saw (view_in old lane) ws) × Becomes old new lane (saw (view_in old lane) (ws ++ (w ∷ [])))
     one_load old mid new lane ws w s inside b l =
-        let is = changed_view possible id key old mid lane (saw (view_in old lane) ws) s inside b.2 in
-        (subst (AgreesWith key.seats w) is l.agrees,
-        (l.view.0 ∙ b.0, l.view.1 ∙ b.1,
-        l.view.2 ∙ (ap (λ o. with_lane o lane (saw (view_in mid lane) (w ∷ []))) b.2
-            ∙ (lane_twice old.me.0 lane (saw (view_in old lane) ws) (saw (view_in mid lane) (w ∷ []))
-            ∙ (ap (λ a. with_lane old.me.0 lane (saw a (w ∷ []))) is
-            ∙ ap (with_lane old.me.0 lane) (saw_more (view_in old lane) ws (w ∷ [])))))))
+        let is = changed_view possible id key old mid lane (saw (view_in old lane) ws) s inside b.2 in (
+          subst (AgreesWith key.seats w) is l.agrees,
+          (
+            l.view.0 ∙ b.0,
+            l.view.1 ∙ b.1,
+            l.view.2 ∙ (ap (λ o. with_lane o lane (saw (view_in mid lane) (w ∷ []))) b.2
+                ∙ (lane_twice old.me.0 lane (saw (view_in old lane) ws) (saw (view_in mid lane) (w ∷ []))
+                ∙ (ap (λ a. with_lane old.me.0 lane (saw a (w ∷ []))) is
+                ∙ ap (with_lane old.me.0 lane) (saw_more (view_in old lane) ws (w ∷ []))))),
+          ),
+        )
 
     pub pins_at : (old mid new : Place G) (lane : ℕ) (ws : List Word) (w : Word) (round : ℕ) → Sits possible id key old → lane < key.lanes
         → Becomes old mid lane (saw (view_in old lane) ws) → Loads key mid new lane w → w.round ≡ round → Pins key old new lane round

@@ -1,5 +1,5 @@
 -- A step of one seat on one lane's word keeps the rule.
-use Rattle.std.proofs.Common.{◌≡◌, ◌≢◌, ℕ, ◌<◌, ◌≤◌, ◌⊎◌, ⊎_elim, inl, inr, Bool, true, false, IsTrue, eqb, Option, Some, None, List, [], ◌∷◌, ◌++◌, length, get_or, set, refl, sym, ap, ◌∙◌, subst, arith, length-set, get_or-set_same, get_or-set_other}
+use Rattle.std.proofs.Common.{◌≡◌, ◌≢◌, ℕ, ◌<◌, ⊎_elim, Option, Some, List, length, get_or, set, sym, ◌∙◌, subst, arith, length-set, get_or-set_same, get_or-set_other}
 use mathlib.Core.Logic.{dite}
 use mathlib.Core.Option.{some, none}
 use mathlib.Core.Option as maybe
@@ -25,10 +25,10 @@ both_at : (P : Word → LaneView → Type 0) (words : List ℕ) (views : List La
     → (k ≡ lane → P (unpacked n) a) → (k ≢ lane → P (word_of words k) (get_or views k no_view)) → P (word_of (set words lane n) k) (get_or (set views lane a) k no_view)
 both_at P words views lane n a k h g here apart = dite (ℕ_discrete k lane)
     (λ e. subst (λ m. P (word_of (set words lane n) m) (get_or (set views lane a) m no_view)) (sym e)
-        (subst (λ x. P (unpacked x) (get_or (set views lane a) lane no_view)) (sym (get_or-set_same words lane n 0 h))
-        (subst (P (unpacked n)) (sym (get_or-set_same views lane a no_view g)) (here e))))
+    (subst (λ x. P (unpacked x) (get_or (set views lane a) lane no_view)) (sym (get_or-set_same words lane n 0 h))
+    (subst (P (unpacked n)) (sym (get_or-set_same views lane a no_view g)) (here e))))
     (λ ne. subst (λ x. P (unpacked x) (get_or (set views lane a) k no_view)) (sym (get_or-set_other words lane k n 0 ne))
-        (subst (P (word_of words k)) (sym (get_or-set_other views lane k a no_view ne)) (apart ne)))
+    (subst (P (word_of words k)) (sym (get_or-set_other views lane k a no_view ne)) (apart ne)))
 
 -- one word was changed
 word_at : (P : Word → Type 0) (words : List ℕ) (lane n k : ℕ) → lane < length words → (k ≡ lane → P (unpacked n)) → (k ≢ lane → P (word_of words k)) → P (word_of (set words lane n) k)
@@ -57,30 +57,35 @@ module _ {G : Type 0} (possible : G → ℕ → ℕ → Type 0) (key : Key G) wh
       → Moves lane (word_of s.words lane) (unpacked n) (lane_of (Some v) lane) b
       → Keeps key possible record { words = set s.words lane n; homes = homes; views = set s.views i (with_lane (Some v) lane b) }
   moves s homes i lane n v b r at inside m = record {
-      lanes = length-set s.words lane n ∙ r.lanes;
-      rounds = λ k h. word_at (λ x. possible key.tag.value k x.round) s.words lane n k wide (λ e. subst (λ l. possible key.tag.value l (unpacked n).round) (sym e) m.rounds) (λ ne. r.rounds k h);
-      knows = λ j x e. ⊎_elim (λ t. subst (Knows key words') (same_Some _ _ t.1) own) (λ t. known j x t.0 t.1) (at_set s.views i j (with_lane (Some v) lane b) (Some x) e);
-      apart = λ j k x y ne e f. ⊎_elim
-          (λ t. ⊎_elim (λ u. absurd (ne (t.0 ∙ sym u.0)))
-              (λ u. subst (λ z. (1 < key.seats) × ((l : ℕ) → l < key.lanes → IsApart (lane_of (Some z) l) (lane_of (Some y) l))) (same_Some _ _ t.1) (beside k y u.0 u.1))
-              (at_set s.views i k (with_lane (Some v) lane b) (Some y) f))
-          (λ t. ⊎_elim
-              (λ u. subst (λ z. (1 < key.seats) × ((l : ℕ) → l < key.lanes → IsApart (lane_of (Some x) l) (lane_of (Some z) l))) (same_Some _ _ u.1)
-                  (let q = beside j x t.0 t.1 in (q.0, λ l h. is_apart_sym _ _ (q.1 l h))))
-              (λ u. r.apart j k x y ne t.1 u.1)
-              (at_set s.views i k (with_lane (Some v) lane b) (Some y) f))
-          (at_set s.views i j (with_lane (Some v) lane b) (Some x) e);
-    } where
+    lanes = length-set s.words lane n ∙ r.lanes;
+    rounds = λ k h. word_at (λ x. possible key.tag.value k x.round) s.words lane n k wide (λ e. subst (λ l. possible key.tag.value l (unpacked n).round) (sym e) m.rounds) (λ ne. r.rounds k h);
+    knows = λ j x e. ⊎_elim (λ t. subst (Knows key words') (same_Some _ _ t.1) own) (λ t. known j x t.0 t.1) (at_set s.views i j (with_lane (Some v) lane b) (Some x) e);
+    apart = λ j k x y ne e f. ⊎_elim
+        (λ t. ⊎_elim (λ u. absurd (ne (t.0 ∙ sym u.0)))
+        (λ u. subst (λ z. (1 < key.seats) × ((l : ℕ) → l < key.lanes → IsApart (lane_of (Some z) l) (lane_of (Some y) l))) (same_Some _ _ t.1) (beside k y u.0 u.1))
+        (at_set s.views i k (with_lane (Some v) lane b) (Some y) f))
+        (λ t. ⊎_elim
+        (λ u. subst (λ z. (1 < key.seats) × ((l : ℕ) → l < key.lanes → IsApart (lane_of (Some x) l) (lane_of (Some z) l))) (same_Some _ _ u.1)
+        (let q = beside j x t.0 t.1 in (q.0, λ l h. is_apart_sym _ _ (q.1 l h))))
+        (λ u. r.apart j k x y ne t.1 u.1)
+        (at_set s.views i k (with_lane (Some v) lane b) (Some y) f))
+        (at_set s.views i j (with_lane (Some v) lane b) (Some x) e);
+  } where
     words' : List ℕ
     words' = set s.words lane n
+
     wide : lane < length s.words
     wide = omega (arith, r.lanes)
+
     was : Knows key s.words v
     was = r.knows i v at
+
     deep : lane < length v.lanes
     deep = let l = was.lanes in omega arith
+
     v' : Known G
     v' = record v { lanes = set v.lanes lane b }
+
     own : Knows key words' v'
     own = record {
       tag = was.tag;
@@ -88,6 +93,7 @@ module _ {G : Type 0} (possible : G → ℕ → ℕ → Type 0) (key : Key G) wh
       lanes = length-set v.lanes lane b ∙ was.lanes;
       agrees = λ k h. both_at (AgreesWith key.seats) s.words v.lanes lane n b k wide deep (λ e. m.mine) (λ ne. was.agrees k h);
     }
+
     known : (j : ℕ) (x : Known G) → j ≢ i → get_elem? s.views j ≡ some (Some x) → Knows key words' x
     known j x ne e = let old = r.knows j x e in let q = r.apart i j v x (λ z. ne (sym z)) at e in record {
       tag = old.tag;
@@ -97,8 +103,11 @@ module _ {G : Type 0} (possible : G → ℕ → ℕ → Type 0) (key : Key G) wh
           (λ is. subst (λ l. AgreesWith key.seats (unpacked n) (lane_of (Some x) l)) (sym is) (m.others (lane_of (Some x) lane) q.0 (q.1 lane inside) (old.agrees lane inside)))
           (λ apart. old.agrees k h);
     }
+
     beside : (j : ℕ) (x : Known G) → j ≢ i → get_elem? s.views j ≡ some (Some x) → (1 < key.seats) × ((l : ℕ) → l < key.lanes → IsApart (lane_of (Some v') l) (lane_of (Some x) l))
-    beside j x ne e = let old = r.knows j x e in let q = r.apart i j v x (λ z. ne (sym z)) at e in
-        (q.0, λ k h. view_at (λ a. IsApart a (lane_of (Some x) k)) v.lanes lane b k deep
-            (λ is. subst (λ l. IsApart b (lane_of (Some x) l)) (sym is) (m.apart (lane_of (Some x) lane) q.0 (q.1 lane inside) (old.agrees lane inside)))
-            (λ apart. q.1 k h))
+    beside j x ne e = let old = r.knows j x e in let q = r.apart i j v x (λ z. ne (sym z)) at e in (
+      q.0,
+      λ k h. view_at (λ a. IsApart a (lane_of (Some x) k)) v.lanes lane b k deep
+          (λ is. subst (λ l. IsApart b (lane_of (Some x) l)) (sym is) (m.apart (lane_of (Some x) lane) q.0 (q.1 lane inside) (old.agrees lane inside)))
+          (λ apart. q.1 k h),
+    )

@@ -1,5 +1,5 @@
 -- A seat of the store after a step on a lane's word.
-use Rattle.std.proofs.Common.{◌≡◌, ◌≢◌, ℕ, ◌+◌, ◌<◌, ◌≤◌, Bool, true, false, Option, Some, None, List, [], ◌∷◌, ◌++◌, length, get_or, set, refl, sym, ap, ◌∙◌, subst, arith, length-set}
+use Rattle.std.proofs.Common.{◌≡◌, ◌≢◌, ℕ, ◌+◌, ◌<◌, ◌≤◌, Some, [], ◌∷◌, ◌++◌, set, refl, sym, ap, ◌∙◌, subst, arith, length-set}
 use mathlib.Core.Logic.{dite}
 use mathlib.Core.Option.{none}
 use native.Mathlib.Decide.{ℕ_discrete}
@@ -13,7 +13,7 @@ use Rattle.round_core.proofs.WordLemmas.{packed-unpacked}
 use Rattle.round_slots.specs.declared.view.LaneView.{LaneView}
 use Rattle.round_slots.specs.declared.view.Known.{Known}
 use Rattle.round_slots.specs.declared.view.Key.{Key}
-use Rattle.round_slots.specs.View.{no_view, lane_of, with_lane, saw, marked, unmarked, next_word, claimed, gave_up, published}
+use Rattle.round_slots.specs.View.{lane_of, with_lane, saw, marked, unmarked, next_word, claimed, gave_up, published}
 use Rattle.round_slots.specs.Rule.{AgreesWith}
 use Rattle.round_slots.specs.Plays.{Told, looked, exchanged}
 use Rattle.round_slots.specs.Seats.{Place, IsRising, HasSeen, Sits, Becomes, Loads, view_in}
@@ -44,35 +44,38 @@ module _ {G : Type 0} (possible : G → ℕ → ℕ → Type 0) (id : TableId) (
   sits_after : (old new : Place G) (lane : ℕ) (a : LaneView) → Sits possible id key old → lane < key.lanes → new.table_id ≡ old.table_id
       → new.me ≡ (with_lane old.me.0 lane a, old.me.1) → HasSeen possible key.tag.value lane a → Sits possible id key new
   sits_after old new lane a s inside same me h = record {
-      table = same ∙ s.table;
-      empty = ap (λ m. m.1) me ∙ s.empty;
-      view = v;
-      is_view = is;
-      tag = s.tag;
-      seats = s.seats;
-      lanes = length-set s.view.lanes lane a ∙ s.lanes;
-      seen = λ k lt. subst (λ o. HasSeen possible key.tag.value k (lane_of o k)) (sym is)
-          (view_at (HasSeen possible key.tag.value k) s.view.lanes lane a k (omega (arith, s.lanes, inside))
-          (λ e. subst (λ l. HasSeen possible key.tag.value l a) (sym e) h)
-          (λ ne. subst (λ o. HasSeen possible key.tag.value k (lane_of o k)) s.is_view (s.seen k lt)));
-    } where
+    table = same ∙ s.table;
+    empty = ap (λ m. m.1) me ∙ s.empty;
+    view = v;
+    is_view = is;
+    tag = s.tag;
+    seats = s.seats;
+    lanes = length-set s.view.lanes lane a ∙ s.lanes;
+    seen = λ k lt. subst (λ o. HasSeen possible key.tag.value k (lane_of o k)) (sym is)
+        (view_at (HasSeen possible key.tag.value k) s.view.lanes lane a k (omega (arith, s.lanes, inside))
+        (λ e. subst (λ l. HasSeen possible key.tag.value l a) (sym e) h)
+        (λ ne. subst (λ o. HasSeen possible key.tag.value k (lane_of o k)) s.is_view (s.seen k lt)));
+  } where
     v : Known G
     v = record s.view { lanes = set s.view.lanes lane a }
+
     is : new.me.0 ≡ Some v
     is = ap (λ m. m.0) me ∙ ap (λ o. with_lane o lane a) s.is_view
 
   -- what the step told, in the store's words
   told_is : (old : Place G) (lane : ℕ) (w : Word) → Sits possible id key old → Told possible old.me.0 lane w → AgreesWith key.seats w (view_in old lane) × possible key.tag.value lane w.round
-  told_is old lane w s t = let u = subst (λ o. Told possible o lane w) s.is_view t in
-      (subst (λ o. AgreesWith key.seats w (lane_of o lane)) (sym s.is_view) (subst (λ n. AgreesWith n w (lane_of (Some s.view) lane)) s.seats u.0),
-      subst (λ g. possible g lane w.round) s.tag u.1)
+  told_is old lane w s t = let u = subst (λ o. Told possible o lane w) s.is_view t in (
+    subst (λ o. AgreesWith key.seats w (lane_of o lane)) (sym s.is_view) (subst (λ n. AgreesWith n w (lane_of (Some s.view) lane)) s.seats u.0),
+    subst (λ g. possible g lane w.round) s.tag u.1,
+  )
 
   loads_after : (old new : Place G) (lane : ℕ) (w : Word) → Sits possible id key old → lane < key.lanes → new.table_id ≡ old.table_id → new.id ≡ old.id
       → Told possible old.me.0 lane w → new.me ≡ (with_lane old.me.0 lane (saw (view_in old lane) (w ∷ [])), old.me.1)
       → Sits possible id key new × Loads key old new lane w
-  loads_after old new lane w s inside same id_same t me = let u = told_is old lane w s t in
-      (sits_after old new lane (saw (view_in old lane) (w ∷ [])) s inside same me (seen_one lane (view_in old lane) w (s.seen lane inside) (no_older (view_in old lane) w u.0) u.1),
-      record { agrees = u.0; view = (same, id_same, ap (λ m. m.0) me) })
+  loads_after old new lane w s inside same id_same t me = let u = told_is old lane w s t in (
+    sits_after old new lane (saw (view_in old lane) (w ∷ [])) s inside same me (seen_one lane (view_in old lane) w (s.seen lane inside) (no_older (view_in old lane) w u.0) u.1),
+    record { agrees = u.0; view = (same, id_same, ap (λ m. m.0) me) },
+  )
 
   pub after_look : (old new : Place G) (lane slots n : ℕ) (w : Word) → Sits possible id key old → lane < key.lanes → new.table_id ≡ old.table_id → new.id ≡ old.id
       → looked possible (step slots lane 0 0 none) old.me n new.me → w ≡ unpacked n → Sits possible id key new × Loads key old new lane w
@@ -92,9 +95,10 @@ module _ {G : Type 0} (possible : G → ℕ → ℕ → Type 0) (id : TableId) (
   won_after old new lane slots first second n change w to grows is_w is_to up p s inside same id_same t e =
       let u = told_is old lane w s (subst (λ x. Told possible old.me.0 lane x) (ap unpacked e ∙ is_w) t.0) in
       let a : LaneView = view_in old lane in
-      let me : new.me ≡ (with_lane old.me.0 lane (change a w to), old.me.1) = t.1 e ∙ (λ j. (with_lane old.me.0 lane (change a (is_w j) (is_to j)), old.me.1)) in
-      (sits_after old new lane (change a w to) s inside same me (seen_two lane a (change a w to) w to (s.seen lane inside) u.0 u.1 up (p u.1) (grows a w to)),
-      (u.0, (same, id_same, ap (λ m. m.0) me)))
+      let me : new.me ≡ (with_lane old.me.0 lane (change a w to), old.me.1) = t.1 e ∙ (λ j. (with_lane old.me.0 lane (change a (is_w j) (is_to j)), old.me.1)) in (
+        sits_after old new lane (change a w to) s inside same me (seen_two lane a (change a w to) w to (s.seen lane inside) u.0 u.1 up (p u.1) (grows a w to)),
+        (u.0, (same, id_same, ap (λ m. m.0) me)),
+      )
 
   -- the exchange that sets the mark
   pub record Marked (old new : Place G) (lane first n : ℕ) (w : Word) : Type 0 where
@@ -106,12 +110,13 @@ module _ {G : Type 0} (possible : G → ℕ → ℕ → Type 0) (id : TableId) (
       → Sits possible id key old → lane < key.lanes → new.table_id ≡ old.table_id → new.id ≡ old.id
       → exchanged possible claimed (step slots lane first second none) old.me n new.me → Marked old new lane first n w
   after_mark old new lane slots first second n w is_first is_w is_to s inside same id_same t = record {
-      sits = dite (ℕ_discrete n first) (λ e. (hit e).0) (λ ne. (miss ne).0);
-      won = λ e. (hit e).1;
-      lost = λ ne. ((λ e. ne (sym (packed-unpacked n) ∙ ap packed e ∙ sym is_first)), (miss ne).1);
-    } where
+    sits = dite (ℕ_discrete n first) (λ e. (hit e).0) (λ ne. (miss ne).0);
+    won = λ e. (hit e).1;
+    lost = λ ne. ((λ e. ne (sym (packed-unpacked n) ∙ ap packed e ∙ sym is_first)), (miss ne).1);
+  } where
     hit : n ≡ first → Sits possible id key new × Won old new lane claimed w (marked w)
     hit e = won_after old new lane slots first second n claimed w (marked w) (λ a x y. refl) is_w is_to (omega arith) (λ p. p) s inside same id_same t e
+
     miss : n ≢ first → Sits possible id key new × Loads key old new lane (unpacked n)
     miss ne = loads_after old new lane (unpacked n) s inside same id_same t.0 (t.2 ne)
 

@@ -1,11 +1,9 @@
 -- What the table of words asks of each step: the rule is kept, and the seat is told what the step's play says.
-use Rattle.std.proofs.Common.{◌≡◌, ◌≢◌, ℕ, ◌+◌, ◌<◌, ◌≤◌, ◌==◌, Bool, true, false, IsTrue, eqb, Option, Some, None, List, [], ◌∷◌, ◌++◌, length, get_or, set, refl, sym, ap, ◌∙◌, subst, arith}
+use Rattle.std.proofs.Common.{◌≡◌, ◌≢◌, ℕ, ◌+◌, ◌<◌, ◌==◌, false, Option, Some, [], ◌∷◌, get_or, refl, sym, ap, ◌∙◌, subst}
 use mathlib.Core.Option.{some, none}
-use mathlib.Core.Option as maybe
 use lib.ListN.{get_elem?}
-use lib.Seq.{set-get_or}
 use prog.Atomic.{either}
-use Rattle.atomic_table.specs.Table.{State, Me, Step, step, Act, keeps, stepped, Valid, carried_after, Allows}
+use Rattle.atomic_table.specs.Table.{State, Me, step, Act, keeps, stepped, Valid, carried_after, Allows}
 use Rattle.atomic_table.proofs.Lists.{exchanged as exchange_cases}
 use Rattle.round_core.specs.declared.word.Word.{Word}
 use Rattle.round_core.specs.Word.{unpacked}
@@ -13,7 +11,7 @@ use Rattle.round_slots.specs.declared.view.LaneView.{LaneView}
 use Rattle.round_slots.specs.declared.view.Known.{Known}
 use Rattle.round_slots.specs.declared.view.Key.{Key}
 use Rattle.round_slots.specs.View.{lane_of, with_lane, saw, marked, unmarked, next_word, claimed, gave_up, published}
-use Rattle.round_slots.specs.Rule.{AgreesWith, word_of, Knows, Keeps}
+use Rattle.round_slots.specs.Rule.{AgreesWith, word_of, Keeps}
 use Rattle.round_slots.specs.Plays.{Told, looked, exchanged}
 use Rattle.round_slots.proofs.RuleLemmas.{Moves, moves}
 use Rattle.round_slots.proofs.MoveLemmas.{looks, claims, gives_up, publishes}
@@ -27,9 +25,10 @@ module _ {G : Type 0} (possible : G → ℕ → ℕ → Type 0) (key : Key G) wh
 
   -- what the rule says of the lane's word is what the seat is told of it
   told : (s : S) (i lane : ℕ) (v : Known G) → Keeps key possible s → get_elem? s.views i ≡ some (Some v) → lane < key.lanes → Told possible (Some v) lane (word_of s.words lane)
-  told s i lane v r at inside = let k = r.knows i v at in
-      (subst (λ n. AgreesWith n (word_of s.words lane) (lane_of (Some v) lane)) (sym k.seats) (k.agrees lane inside),
-      subst (λ t. possible t lane (word_of s.words lane).round) (sym k.tag) (r.rounds lane inside))
+  told s i lane v r at inside = let k = r.knows i v at in (
+    subst (λ n. AgreesWith n (word_of s.words lane) (lane_of (Some v) lane)) (sym k.seats) (k.agrees lane inside),
+    subst (λ t. possible t lane (word_of s.words lane).round) (sym k.tag) (r.rounds lane inside),
+  )
 
   -- the state after a step on the word of the lane, where the view is there
   abbrev After : S → ℕ → M → ℕ → ℕ → (ℕ → M → Type 0) → Type 0
@@ -70,15 +69,19 @@ module _ {G : Type 0} (possible : G → ℕ → ℕ → Type 0) (key : Key G) wh
     exchange_allowed change old new m s r deep at small = exchange_cases n old new (λ k. After s id me lane k then) hit miss where
       n : ℕ
       n = get_or s.words lane 0
+
       then : ℕ → M → Type 0
       then = exchanged possible change (step slots lane old new none) me
+
       hit : n ≡ old → After s id me lane new then
       hit e = moved s id me lane new v (change (lane_of (Some v) lane) (unpacked old) (unpacked new)) then is r at inside
           (subst (λ k. Moves possible key lane (unpacked k) (unpacked new) (lane_of (Some v) lane) (change (lane_of (Some v) lane) (unpacked old) (unpacked new))) (sym e)
-              (m (subst (λ k. Agreed (unpacked k)) e (agreed s r at))))
-          (told_me s r at,
-          (λ same. λ j. (with_lane (sym is j) lane (change (lane_of (sym is j) lane) (unpacked old) (unpacked new)), me.1)),
-          (λ other. absurd (other e)))
+          (m (subst (λ k. Agreed (unpacked k)) e (agreed s r at)))) (
+            told_me s r at,
+            (λ same. λ j. (with_lane (sym is j) lane (change (lane_of (sym is j) lane) (unpacked old) (unpacked new)), me.1)),
+            (λ other. absurd (other e)),
+          )
+
       miss : n ≢ old → After s id me lane n then
       miss ne = as_before s then r at (told_me s r at, (λ e. absurd (ne e)), (λ other. refl))
 
@@ -86,17 +89,17 @@ module _ {G : Type 0} (possible : G → ℕ → ℕ → Type 0) (key : Key G) wh
         → Allows (Keeps key possible) slots id me lane (λ n. either (n == old) new n) (exchanged possible claimed (step slots lane old new none) me)
     mark_allowed old new free e = exchange_allowed claimed old new
         (λ g. subst (λ w. Moves possible key lane (unpacked old) w (lane_of (Some v) lane) (claimed (lane_of (Some v) lane) (unpacked old) w)) (sym e)
-            (claims possible key lane (unpacked old) (lane_of (Some v) lane) free g.0 g.1))
+        (claims possible key lane (unpacked old) (lane_of (Some v) lane) free g.0 g.1))
 
     pub unmark_allowed : (old new : ℕ) → (lane_of (Some v) lane).turn ≡ Some (unpacked old) → unpacked new ≡ unmarked (unpacked old)
         → Allows (Keeps key possible) slots id me lane (λ n. either (n == old) new n) (exchanged possible gave_up (step slots lane old new none) me)
     unmark_allowed old new turn e = exchange_allowed gave_up old new
         (λ g. subst (λ w. Moves possible key lane (unpacked old) w (lane_of (Some v) lane) (gave_up (lane_of (Some v) lane) (unpacked old) w)) (sym e)
-            (gives_up possible key lane (unpacked old) (lane_of (Some v) lane) turn g.0 g.1))
+        (gives_up possible key lane (unpacked old) (lane_of (Some v) lane) turn g.0 g.1))
 
     pub advance_allowed : (old new slot : ℕ) → (lane_of (Some v) lane).turn ≡ Some (unpacked old) → unpacked new ≡ next_word (unpacked old) slot
         → possible key.tag.value lane ((unpacked old).round + 1)
         → Allows (Keeps key possible) slots id me lane (λ n. either (n == old) new n) (exchanged possible published (step slots lane old new none) me)
     advance_allowed old new slot turn e p = exchange_allowed published old new
         (λ g. subst (λ w. Moves possible key lane (unpacked old) w (lane_of (Some v) lane) (published (lane_of (Some v) lane) (unpacked old) w)) (sym e)
-            (publishes possible key lane (unpacked old) (lane_of (Some v) lane) slot turn g.0 p))
+        (publishes possible key lane (unpacked old) (lane_of (Some v) lane) slot turn g.0 p))

@@ -1,5 +1,5 @@
 -- What a claim tells: the project's own.
-use Rattle.std.specs.Prelude.{◌≡◌, ◌≢◌, ◌⊎◌, ℕ, ◌==◌, true, false, Option, Some, None, List, [], ◌∷◌, if◌then◌else◌}
+use Rattle.std.specs.Prelude.{◌≡◌, ◌≢◌, ◌⊎◌, ℕ, ◌==◌, Option, Some, None, if◌then◌else◌}
 use Rattle.round_core.specs.declared.word.Word.{Word}
 use Rattle.round_slots.specs.declared.store.Front.{Front}
 use Rattle.round_slots.specs.declared.store.ClaimRefused.{ClaimRefused}

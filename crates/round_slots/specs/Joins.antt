@@ -1,5 +1,5 @@
 -- How two seats become one, and how a new seat begins: the project's own.
-use Rattle.std.specs.Prelude.{◌≡◌, ℕ, ◌+◌, ◌<◌, nat_lt, Option, Some, None, List, [], ◌∷◌, ◌++◌, length, replicate, if◌then◌else◌}
+use Rattle.std.specs.Prelude.{ℕ, ◌+◌, nat_lt, Option, Some, None, List, [], ◌∷◌, ◌++◌, length, replicate, if◌then◌else◌}
 use Rattle.round_core.specs.declared.word.Word.{Word}
 use Rattle.round_slots.specs.declared.view.LaneView.{LaneView}
 use Rattle.round_slots.specs.declared.view.Known.{Known}

@@ -1,5 +1,5 @@
 -- What each step on a lane's word tells the seat that steps: the project's own.
-use Rattle.std.specs.Prelude.{◌≡◌, ◌≢◌, ℕ, Option, Some, None, List, [], ◌∷◌}
+use Rattle.std.specs.Prelude.{◌≡◌, ◌≢◌, ℕ, Option, Some, None, [], ◌∷◌}
 use Rattle.atomic_table.specs.Table.{Me, Step}
 use Rattle.round_core.specs.declared.word.Word.{Word}
 use Rattle.round_core.specs.Word.{unpacked}

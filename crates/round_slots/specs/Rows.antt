@@ -24,7 +24,7 @@ AreRows key lane (row ∷ rows) = IsRow key lane row.items × AreRows key (lane 
 IsRow-prop : {G : Type 0} → ((x y : G) → IsProp (x ≡ y)) → (key : Key G) (lane : ℕ) (row : List (LaneTag G)) → IsProp (IsRow key lane row)
 IsRow-prop set key lane row =
     ×_prop (Coded-set coded_ℕ (length row) (key.seats + 2))
-        (AllByRecursion-prop (λ tag. (tag.tag.value ≡ key.tag.value) × (tag.lane ≡ lane)) (λ tag. ×_prop (set tag.tag.value key.tag.value) (Coded-set coded_ℕ tag.lane lane)) row)
+    (AllByRecursion-prop (λ tag. (tag.tag.value ≡ key.tag.value) × (tag.lane ≡ lane)) (λ tag. ×_prop (set tag.tag.value key.tag.value) (Coded-set coded_ℕ tag.lane lane)) row)
 
 pub AreRows-prop : {G : Type 0} → ((x y : G) → IsProp (x ≡ y)) → (key : Key G) (lane : ℕ) (rows : List (Vec (LaneTag G) Global)) → IsProp (AreRows key lane rows)
 AreRows-prop set key lane [] = Unit-prop

@@ -21,8 +21,6 @@ impl<T: Numbered + Drop> Store<T> {
         ensures pinned { seat.new.pinned ≡ seat.old.pinned }
     {
         let Seat { place, pinned: _ } = other;
-        self.words
-            .shared
-            .join_seat::<Merge>(&mut seat.place, place);
+        self.words.shared.join_seat::<Merge>(&mut seat.place, place);
     }
 }

@@ -2,10 +2,14 @@
 //!
 //! A [`Store`] has one to four lanes. Each lane has a word, which names the lane's round and the slot that holds its
 //! value, and as many slots as the store has seats and two more. A thread steps with its [`Seat`]: it claims the next
-//! round and publishes its value, or it pins the value of a round and reads it as long as it likes. No call that steps on
-//! a lane takes memory or a lock.
+//! round and publishes its value, or it pins the value of a round and reads it as long as it likes.
 //!
-//! What a seat has seen and published is its view, which contracts alone read.
+//! What a seat has seen and published is its view ([`Known`]), which contracts alone read: each call says how it changes.
+//! `load`, `claim`, `give_up`, `publish`, `pin` and [`Pin::leave`] take no memory and no lock.
+//!
+//! Nothing is said of progress: `publish` and `pin` end only if another thread doesn't take each slot before them, over
+//! and over. That a slot is always free for the one that publishes is a law of `round_core`'s machine, and only tested
+//! here.
 #![tactic(auto)]
 
 mod join;
@@ -17,8 +21,6 @@ mod rule;
 mod slots;
 mod store;
 mod view;
-#[cfg(test)]
-mod tests;
 mod words;
 
 pub use numbered::Numbered;

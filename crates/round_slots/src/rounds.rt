@@ -36,12 +36,14 @@ impl<T: Numbered + Drop> Store<T> {
             claimed: false,
             slot,
         };
-        self.words.shared.compare_exchange::<Advance<T>>(
-            &mut seat.place,
-            lane as usize,
-            word.pack(),
-            next.pack(),
-        );
+        self.words
+            .shared
+            .compare_exchange::<Advance<T>>(
+                &mut seat.place,
+                lane as usize,
+                word.pack(),
+                next.pack(),
+            );
     }
 
     /// Pins the value of a round that a load of this call showed. It waits until a value that it enters is of the round

@@ -35,7 +35,11 @@ impl<T: Numbered + Drop> Store<T> {
         ensures pinned { seat.new.pinned ≡ seat.old.pinned }
         ensures slot { result.slot < 2147483648 }
     {
-        Word::unpack(self.words.shared.load::<Look<T>>(&mut seat.place, lane as usize))
+        Word::unpack(
+            self.words
+                .shared
+                .load::<Look<T>>(&mut seat.place, lane as usize),
+        )
     }
 
     /// Loads the lane's word. No older word is shown: its round is at least each that the seat has seen or published.
@@ -69,12 +73,10 @@ impl<T: Numbered + Drop> Store<T> {
             slot,
         };
         let expected = word.pack();
-        let found = self.words.shared.compare_exchange::<Mark<T>>(
-            &mut seat.place,
-            lane as usize,
-            expected,
-            claimed.pack(),
-        );
+        let found = self
+            .words
+            .shared
+            .compare_exchange::<Mark<T>>(&mut seat.place, lane as usize, expected, claimed.pack());
         if found == expected {
             Ok(())
         } else {
@@ -135,11 +137,13 @@ impl<T: Numbered + Drop> Store<T> {
             claimed: false,
             slot,
         };
-        self.words.shared.compare_exchange::<Unmark<T>>(
-            &mut seat.place,
-            lane as usize,
-            word.pack(),
-            free.pack(),
-        );
+        self.words
+            .shared
+            .compare_exchange::<Unmark<T>>(
+                &mut seat.place,
+                lane as usize,
+                word.pack(),
+                free.pack(),
+            );
     }
 }

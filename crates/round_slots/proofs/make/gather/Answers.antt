@@ -10,9 +10,13 @@ join_seat-requires g c =
     let i = c.loop-other.invariant in
     let key = c.args.words.now.shared.key in
     let e : c.loop-other.seats.items ≡ c.pop-in-loop-other.new.self.items ++ (c.in-Some-pop.field-0 ∷ []) = search rules in
-    let o = next_seat _ key _ _ _ _ _ c.in-Some-pop.field-0 i e (recursion_from_All _ _ c.requires.sit) in
-    (i.seat.table, o.table, o.empty, c.requires.some_word,
-    joins_allowed g.T.Numbered.possible key gathered_lane (gathered_merges g.T.Numbered.possible key) _ _ _ _ i.seat.view o.view i.seat.is_view o.is_view)
+    let o = next_seat _ key _ _ _ _ _ c.in-Some-pop.field-0 i e (recursion_from_All _ _ c.requires.sit) in (
+      i.seat.table,
+      o.table,
+      o.empty,
+      c.requires.some_word,
+      joins_allowed g.T.Numbered.possible key gathered_lane (gathered_merges g.T.Numbered.possible key) _ _ _ _ i.seat.view o.view i.seat.is_view o.is_view,
+    )
 
 pub loop-other-preserved : goal.loop-other-preserved
 loop-other-preserved g c =

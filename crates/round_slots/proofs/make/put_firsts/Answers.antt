@@ -1,4 +1,4 @@
-use Rattle.std.proofs.Common.{◌≡◌, ℕ, ◌<◌, [], ◌∷◌, ◌++◌, length, get_or, rules, arith, ap, sym, subst, ◌∙◌}
+use Rattle.std.proofs.Common.{◌≡◌, ◌<◌, [], ◌∷◌, ◌++◌, length, get_or, rules, arith, ap, sym, subst, ◌∙◌}
 use Rattle.round_slots.specs.Rows.{Admits}
 use Rattle.round_slots.specs.Ends.{AreAdmitted}
 use Rattle.round_slots.proofs.EndLemmas.{admitted_front, admitted_last, admitted_within}

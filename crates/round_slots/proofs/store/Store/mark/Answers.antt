@@ -26,4 +26,4 @@ returns-else-found-expected-clause-sits g c = let t = c.compare_exchange-found.e
 pub returns-else-found-expected-clause-lost : goal.returns-else-found-expected-clause-lost
 returns-else-found-expected-clause-lost g c = let t = c.compare_exchange-found.ensures in
     lost_as g.T.Numbered.possible c.args.self.now.words.shared.table_id _ _ _ _ _ _ _ c.unpack.ensures.word
-        ((after_mark g.T.Numbered.possible _ _ _ _ _ c.args.self.now.words.shared.table_id.slots _ _ _ _ c.pack-expected.ensures.bits c.pack-expected.ensures.back c.pack.ensures.back c.requires.sits c.requires.lane t.0 t.1 t.2).lost c.if-found-expected.false)
+    ((after_mark g.T.Numbered.possible _ _ _ _ _ c.args.self.now.words.shared.table_id.slots _ _ _ _ c.pack-expected.ensures.bits c.pack-expected.ensures.back c.pack.ensures.back c.requires.sits c.requires.lane t.0 t.1 t.2).lost c.if-found-expected.false)

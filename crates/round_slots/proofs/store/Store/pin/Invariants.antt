@@ -1,4 +1,4 @@
-use Rattle.std.proofs.Common.{◌≡◌, List}
+use Rattle.std.proofs.Common.{List}
 use Rattle.round_core.specs.declared.word.Word.{Word}
 use Rattle.round_slots.specs.View.{saw}
 use Rattle.round_slots.specs.Seats.{Sits, Becomes, view_in}

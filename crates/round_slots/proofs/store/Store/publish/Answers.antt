@@ -1,5 +1,4 @@
-use Rattle.std.proofs.Common.{ℕ, ◌+◌, ◌<◌, ◌≤◌, length, Some, rules, arith, ap, sym, subst, ◌∙◌}
-use Rattle.round_core.specs.declared.word.Word.{Word}
+use Rattle.std.proofs.Common.{◌+◌, ◌≤◌, length, Some, rules, arith, ap, sym, subst, ◌∙◌}
 use Rattle.round_slots.specs.Rows.{Admits}
 use Rattle.round_slots.specs.View.{lane_of, next_word}
 use Rattle.round_slots.proofs.StepLemmas.{advance_allowed}
@@ -35,30 +34,31 @@ compare_exchange-requires g c =
     let s = c.requires.sits in
     let w = c.pack.ensures.back in
     let key = c.args.self.now.words.shared.key in
-    let lane = c.args.turn.lane in
-    (search rules,
-    search rules,
-    advance_allowed g.T.Numbered.possible key _ _ _ s.view _ s.is_view c.requires.lane _ _ c.put-slot.result
-        (ap (λ o. (lane_of o lane).turn) (sym s.is_view) ∙ (c.requires.turn ∙ ap Some (sym w)))
-        (c.pack-2.ensures.back ∙ ap (λ x. next_word x c.put-slot.result) (sym w))
-        (subst (g.T.Numbered.possible key.tag.value lane) (c.requires.next ∙ ap (λ x. x.round + 1) (sym w)) (g.met.T.Numbered.belongs_to_possible _ _ _ c.requires.belongs)))
+    let lane = c.args.turn.lane in (
+      search rules,
+      search rules,
+      advance_allowed g.T.Numbered.possible key _ _ _ s.view _ s.is_view c.requires.lane _ _ c.put-slot.result
+          (ap (λ o. (lane_of o lane).turn) (sym s.is_view) ∙ (c.requires.turn ∙ ap Some (sym w)))
+          (c.pack-2.ensures.back ∙ ap (λ x. next_word x c.put-slot.result) (sym w))
+          (subst (g.T.Numbered.possible key.tag.value lane) (c.requires.next ∙ ap (λ x. x.round + 1) (sym w)) (g.met.T.Numbered.belongs_to_possible _ _ _ c.requires.belongs)),
+    )
 
 pub returns-clause-sits : goal.returns-clause-sits
 returns-clause-sits g c = let t = c.compare_exchange.ensures in let key = c.args.self.now.words.shared.key in
     (after_advance g.T.Numbered.possible _ _ _ _ _ c.args.self.now.words.shared.table_id.slots _ _ _ c.put-slot.result _ c.pack.ensures.bits c.pack.ensures.back c.pack-2.ensures.back c.requires.turn
-        (subst (g.T.Numbered.possible key.tag.value c.args.turn.lane) c.requires.next (g.met.T.Numbered.belongs_to_possible _ _ _ c.requires.belongs))
-        c.requires.sits c.requires.lane t.0 t.1 t.2).0
+    (subst (g.T.Numbered.possible key.tag.value c.args.turn.lane) c.requires.next (g.met.T.Numbered.belongs_to_possible _ _ _ c.requires.belongs))
+    c.requires.sits c.requires.lane t.0 t.1 t.2).0
 
 pub returns-clause-publishes : goal.returns-clause-publishes
 returns-clause-publishes g c = let t = c.compare_exchange.ensures in let key = c.args.self.now.words.shared.key in
     let won = (after_advance g.T.Numbered.possible _ _ _ _ _ c.args.self.now.words.shared.table_id.slots _ _ _ c.put-slot.result _ c.pack.ensures.bits c.pack.ensures.back c.pack-2.ensures.back c.requires.turn
-        (subst (g.T.Numbered.possible key.tag.value c.args.turn.lane) c.requires.next (g.met.T.Numbered.belongs_to_possible _ _ _ c.requires.belongs))
-        c.requires.sits c.requires.lane t.0 t.1 t.2).1 in
+    (subst (g.T.Numbered.possible key.tag.value c.args.turn.lane) c.requires.next (g.met.T.Numbered.belongs_to_possible _ _ _ c.requires.belongs))
+    c.requires.sits c.requires.lane t.0 t.1 t.2).1 in
     (c.put-slot.result, won.0, won.1)
 
 pub returns-clause-ends : goal.returns-clause-ends
 returns-clause-ends g c = let t = c.compare_exchange.ensures in let key = c.args.self.now.words.shared.key in
     let won = (after_advance g.T.Numbered.possible _ _ _ _ _ c.args.self.now.words.shared.table_id.slots _ _ _ c.put-slot.result _ c.pack.ensures.bits c.pack.ensures.back c.pack-2.ensures.back c.requires.turn
-        (subst (g.T.Numbered.possible key.tag.value c.args.turn.lane) c.requires.next (g.met.T.Numbered.belongs_to_possible _ _ _ c.requires.belongs))
-        c.requires.sits c.requires.lane t.0 t.1 t.2).1 in
+    (subst (g.T.Numbered.possible key.tag.value c.args.turn.lane) c.requires.next (g.met.T.Numbered.belongs_to_possible _ _ _ c.requires.belongs))
+    c.requires.sits c.requires.lane t.0 t.1 t.2).1 in
     changed_turn g.T.Numbered.possible _ _ c.args.seat.now.place c.compare_exchange.new.seat _ _ c.requires.sits c.requires.lane won.1.2
