@@ -1,5 +1,5 @@
 -- The premises hold of the example's machine and map: where its acts come, and what they leave.
-use Rattle.std.proofs.Common.{◌≡◌, inl, inr, ℕ, ◌+◌, List, [], ◌∷◌, length, refl, sym, ap, subst, ◌∙◌, arith}
+use Rattle.std.proofs.Common.{◌≡◌, ◌⊎◌, inl, inr, ℕ, ◌+◌, List, [], ◌∷◌, length, refl, sym, ap, subst, ◌∙◌, arith}
 use Rattle.std.specs.Prelude.{◌==◌, ◌-◌, ◌%◌, if◌then◌else◌, Bool, true, false, Some, None}
 use Rattle.std.proofs.lemmas.Option.{none-some}
 use Rattle.std.proofs.lemmas.Bool.{false≢true}
@@ -11,14 +11,14 @@ use Rattle.slice_soundness.specs.Nodes.{node_at}
 use Rattle.slice_soundness.specs.Maps.{here}
 use Rattle.slice_soundness.specs.Premises.{MachineLaws, AbstractSteps, Comes, GoesOn, LeadsTo, Stays, Row}
 use Rattle.slice_soundness.specs.Tables.{value_in}
-use Rattle.slice_soundness.specs.Example.{Act, calls, stops, stores, chooses, loads, returns, address_of, entry_activation, inner_activation, byte_or_zero, all_but_newest, done, is_last, is_branch, machine, Known, outside, inside, activations_of, esp_of, StandsFor, IsWhole, node_in, rows, successors_at, IsSuccessor, example}
+use Rattle.slice_soundness.specs.Example.{Act, calls, stops, stores, chooses, loads, returns, address_of, inner_base, entry_activation, inner_activation, byte_or_zero, all_but_newest, done, is_last, is_branch, machine, Known, outside, inside, activations_of, esp_of, StandsFor, IsWhole, node_in, rows, successors_at, IsSuccessor, example}
 
 -- -- The machine
 
-act_at : ℕ → Act
+pub act_at : ℕ → Act
 act_at at = if at == 10 then calls else (if at == 11 then stops else (if at == 20 then stores else (if at == 21 then chooses else (if at == 22 then loads else returns))))
 
-act_is : (act : Act) → act_at (address_of act) ≡ act
+pub act_is : (act : Act) → act_at (address_of act) ≡ act
 unfolding act_at
 act_is calls = refl
 act_is stops = refl
@@ -126,9 +126,24 @@ by_flag o p true same esp there = stays_by chooses o 23 p same esp there (record
 by_flag o p false same esp there = stays_by chooses o 22 p same esp there (record { known = inside; is_node = refl; among = (0, omega arith, refl) })
 
 -- the slot holds the place after the call
-slot_is : (s : State) → IsWhole s → s.activations ≡ activations_of inside → s.memory 996 ≡ Some 11
-slot_is s (inl other) same = absurd (one_is_not_two (sym other ∙ same))
-slot_is s (inr holds) same = holds.1
+slot_by : (s : State) → (s.activations ≡ activations_of outside) ⊎ ((s.activations ≡ activations_of inside) × (s.memory inner_base ≡ Some 11)) → s.activations ≡ activations_of inside → s.memory inner_base ≡ Some 11
+slot_by s (inl other) same = absurd (one_is_not_two (sym other ∙ same))
+slot_by s (inr holds) same = holds.1
+
+slot_is : (s : State) → IsWhole s → s.activations ≡ activations_of inside → s.memory inner_base ≡ Some 11
+slot_is s whole same = slot_by s whole.holds same
+
+slot_done : (act : Act) (s : State) → (done act s).slot ≡ s.slot
+slot_done calls s = refl
+slot_done stops s = refl
+slot_done stores s = refl
+slot_done chooses s = refl
+slot_done loads s = refl
+slot_done returns s = refl
+
+-- the stack stays where it is
+pub slot_after : (o : OccurrenceOf machine) → Comes machine example o → o.after.slot ≡ o.before.slot
+slot_after o comes = ap (λ s. s.slot) comes.happens.after ∙ slot_done o.act o.before
 
 returned : (o : OccurrenceOf machine) → Comes machine example o → Placed returns o.before → o.after ≡ done returns o.before → o.after.eip ≡ 11
 returned o comes p after =
@@ -188,40 +203,40 @@ row_of returns o is goes =
           (record { known = inside; is_node = refl; among = (0, omega arith, refl) }));
     }))
 
-whole_of : (act : Act) (o : OccurrenceOf machine) → o.act ≡ act → GoesOn machine example o → IsWhole o.after
-whole_of calls o is goes =
+holds_of : (act : Act) (o : OccurrenceOf machine) → o.act ≡ act → GoesOn machine example o → (o.after.activations ≡ activations_of outside) ⊎ ((o.after.activations ≡ activations_of inside) × (o.after.memory inner_base ≡ Some 11))
+holds_of calls o is goes =
     let p = placed calls o is goes.comes in
     let after = after_is calls o is goes.comes in
     inr (
       ap (λ s. s.activations) after ∙ ap (λ activations. inner_activation ∷ activations) p.activations,
-      ap (λ s. s.memory 996) after ∙ ap (λ esp. put o.before.memory (esp - 4) (Some 11) 996) p.esp,
+      ap (λ s. s.memory inner_base) after ∙ ap (λ esp. put o.before.memory (esp - 4) (Some 11) inner_base) p.esp,
     )
-whole_of stops o is goes = absurd (false≢true (sym goes.not_last ∙ ap is_last is))
-whole_of stores o is goes =
+holds_of stops o is goes = absurd (false≢true (sym goes.not_last ∙ ap is_last is))
+holds_of stores o is goes =
     let p = placed stores o is goes.comes in
     let after = after_is stores o is goes.comes in
     inr (
       ap (λ s. s.activations) after ∙ p.activations,
-      ap (λ s. s.memory 996) after ∙ ap (λ esp. put o.before.memory (esp - 1) (Some (o.before.registers 1 % 256)) 996) p.esp ∙ slot_is o.before goes.comes.ready.whole p.activations,
+      ap (λ s. s.memory inner_base) after ∙ ap (λ esp. put o.before.memory (esp - 1) (Some (o.before.registers 1 % 256)) inner_base) p.esp ∙ slot_is o.before goes.comes.ready.whole p.activations,
     )
-whole_of chooses o is goes =
+holds_of chooses o is goes =
     let after = after_is chooses o is goes.comes in
     let p = placed chooses o is goes.comes in
-    inr (ap (λ s. s.activations) after ∙ p.activations, ap (λ s. s.memory 996) after ∙ slot_is o.before goes.comes.ready.whole p.activations)
-whole_of loads o is goes =
+    inr (ap (λ s. s.activations) after ∙ p.activations, ap (λ s. s.memory inner_base) after ∙ slot_is o.before goes.comes.ready.whole p.activations)
+holds_of loads o is goes =
     let after = after_is loads o is goes.comes in
     let p = placed loads o is goes.comes in
-    inr (ap (λ s. s.activations) after ∙ p.activations, ap (λ s. s.memory 996) after ∙ slot_is o.before goes.comes.ready.whole p.activations)
-whole_of returns o is goes =
+    inr (ap (λ s. s.activations) after ∙ p.activations, ap (λ s. s.memory inner_base) after ∙ slot_is o.before goes.comes.ready.whole p.activations)
+holds_of returns o is goes =
     let p = placed returns o is goes.comes in
     let after = after_is returns o is goes.comes in
     inl (ap (λ s. s.activations) after ∙ ap all_but_newest p.activations)
 
 pub abstract_steps : AbstractSteps machine example
 abstract_steps = record {
-  start_whole = λ s start. inl start.activations;
+  start_whole = λ s start. record { slot = start.slot; holds = inl start.activations };
   start_stands = λ s start. (start.activations, start.esp);
   below = λ a b s under canonical whole stands. subst (λ known. StandsFor known s) under stands;
-  whole = λ o goes. whole_of o.act o refl goes;
+  whole = λ o goes. record { slot = slot_after o goes.comes ∙ goes.comes.ready.whole.slot; holds = holds_of o.act o refl goes };
   row = λ o goes. row_of o.act o refl goes;
 }

@@ -12,7 +12,7 @@ use Rattle.ia32_semantics.specs.Dependence.{Writes, Forgets, DataDependence, Con
 use Rattle.slice_soundness.specs.Premises.{IsClean, Describes}
 use Rattle.slice_soundness.specs.Tables.{value_in, number_in, IsKept, IsFlow}
 use Rattle.slice_soundness.specs.Arrows.{Arrow, InSlice, ListsSlice}
-use Rattle.slice_soundness.specs.Example.{Act, calls, stops, stores, chooses, loads, returns, address_of, done, is_last, is_branch, machine, Known, outside, inside, same_known, rows, successors_at, uses_at, defines_at, example, table, start, made, run, other_run, listed, HasDependences}
+use Rattle.slice_soundness.specs.Example.{Act, calls, stops, stores, chooses, loads, returns, address_of, done, is_last, is_branch, machine, Known, outside, inside, same_known, rows, successors_at, uses_at, defines_at, example, table, start, made, run, other_run, listed, stored_at, HasDependences}
 use Rattle.slice_soundness.proofs.DataLemmas.{both_of}
 use Rattle.slice_soundness.proofs.TableLemmas.{tables_are_clean, tables_have_graphs}
 use Rattle.slice_soundness.proofs.ArrowLemmas.{slices_list_dependences}
@@ -208,10 +208,10 @@ other_goes = (
 )
 
 is_run : IsRun machine run
-is_run = record { start = start false; starts = record { at = refl; activations = refl; esp = refl }; goes = goes }
+is_run = record { start = start false; starts = record { at = refl; activations = refl; esp = refl; slot = refl }; goes = goes }
 
 other_is_run : IsRun machine other_run
-other_is_run = record { start = start true; starts = record { at = refl; activations = refl; esp = refl }; goes = other_goes }
+other_is_run = record { start = start true; starts = record { at = refl; activations = refl; esp = refl; slot = refl }; goes = other_goes }
 
 -- what is neither written nor forgotten at an occurrence
 left_alone : (l : Location) (o p : Occurrence Act) → machine.writes p l ≡ false → machine.forgets p l ≡ false → Some p ≡ Some o → (¬ Writes machine true o l) × (¬ Forgets machine o l)
@@ -251,7 +251,7 @@ end_of_load = record {
     between (suc (suc (suc (suc zero)))) o after before is = left_alone (InRegister 0) o (made returns (done loads (done chooses (done stores (done calls (start false)))))) refl refl is
     between (suc (suc (suc (suc (suc k))))) o after before is = absurd (omega arith)
 
-load_of_store : DataDependence machine true run (AtByte 995) 3 1
+load_of_store : DataDependence machine true run (AtByte stored_at) 3 1
 unfolding s2 s3
 load_of_store = record {
   earlier = omega arith;
@@ -265,10 +265,10 @@ load_of_store = record {
   last = λ k o after before is. between k o after before is;
 }
   where
-    between : (k : ℕ) (o : Occurrence Act) → 1 < k → k < 3 → slice_get run k ≡ Some o → (¬ Writes machine true o (AtByte 995)) × (¬ Forgets machine o (AtByte 995))
+    between : (k : ℕ) (o : Occurrence Act) → 1 < k → k < 3 → slice_get run k ≡ Some o → (¬ Writes machine true o (AtByte stored_at)) × (¬ Forgets machine o (AtByte stored_at))
     between zero o after before is = absurd (omega arith)
     between (suc zero) o after before is = absurd (omega arith)
-    between (suc (suc zero)) o after before is = left_alone (AtByte 995) o (made chooses (done stores (done calls (start false)))) refl refl is
+    between (suc (suc zero)) o after before is = left_alone (AtByte stored_at) o (made chooses (done stores (done calls (start false)))) refl refl is
     between (suc (suc (suc k))) o after before is = absurd (omega arith)
 
 -- an occurrence elsewhere

@@ -7,7 +7,8 @@ pub mod ControlLemmas
 pub mod ArrowLemmas
 pub mod ReturnLemmas
 pub mod TableLemmas
+pub mod LocatedLemmas
 pub mod ExampleLemmas
 pub mod ExampleCoverLemmas
 pub mod ExampleRunLemmas
-pub mod LocatedLemmas
+pub mod ArchitectureLemmas

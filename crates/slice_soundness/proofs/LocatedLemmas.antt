@@ -1,5 +1,5 @@
 -- Bytes that are neither written nor forgotten stay where they lie, and places are covered.
-use Rattle.std.proofs.Common.{◌≡◌, ⊎_elim, ℕ, ◌+◌, List, [], ◌∷◌, ◌++◌, refl, sym, ap, subst, ◌∙◌, ltb-true}
+use Rattle.std.proofs.Common.{arith, ◌<◌, ◌≡◌, ⊎_elim, ℕ, ◌+◌, List, [], ◌∷◌, ◌++◌, refl, sym, ap, subst, ◌∙◌, ltb-true}
 use Rattle.std.specs.Prelude.{pos, ◌-ℤ◌, ◌^◌, nat_lt, Bool, true, false, if◌then◌else◌, find, Option, Some, None}
 use Rattle.std.specs.Option.{option_map}
 use Rattle.std.proofs.lemmas.Option.{none-some}
@@ -12,8 +12,9 @@ use Rattle.ia32_semantics.specs.Runs.{OccurrenceOf}
 use Rattle.call_strings.specs.declared.context.Node.{Node}
 use Rattle.slice_soundness.specs.Nodes.{running, node_at, IsRooted}
 use Rattle.slice_soundness.specs.Maps.{Map, IsNode, here, AreHome, IsPlaceOf}
-use Rattle.slice_soundness.specs.Premises.{IsReady, GoesOn, Covers}
+use Rattle.slice_soundness.specs.Premises.{IsReady, GoesOn, Covers, IsLocation}
 use Rattle.slice_soundness.specs.Located.{Spot, owner_of, is_in_allocation, frame_spot, block_spot, spot_by, spot_of, Division, Part, OfCore, OfRegion, Accesses, IsPartAt, IsThere, HasPlace, MovesBytes, IsLocated}
+use Rattle.slice_soundness.proofs.DataLemmas.{both_of}
 use Rattle.slice_soundness.proofs.RunLemmas.{or_false, not_both}
 
 -- -- Owners
@@ -84,28 +85,28 @@ module _ (m : Machine) (v : Map) (o : OccurrenceOf m) (goes : GoesOn m v o) (mov
 module _ (m : Machine) (v : Map) (d : Division) (acc : Accesses) (located : IsLocated m v d acc) where
   -- where a part lies, a location has its place
   place_of : (s : State) (l : Location) (part : Part) (place : ℕ) → IsPartAt d s l part → HasPlace d part place → IsPlaceOf v s l place
-  place_of s (InRegister n) part place is has = subst (λ p. HasPlace d p place) is has
-  place_of s (InFlag n) part place is has = subst (λ p. HasPlace d p place) is has
+  place_of s (InRegister n) part place is has = (subst (λ p. HasPlace d p place) is has).0
+  place_of s (InFlag n) part place is has = (subst (λ p. HasPlace d p place) is has).0
   place_of s (AtByte a) part place is has =
       located.cells_back s a place (record { spot = is.0; spot_is = is.1; is_in = subst (λ p. HasPlace d p place) is.2 has })
 
   -- and a location that has a place is a part with that place
-  part_of : (s : State) (l : Location) (place : ℕ) → IsPlaceOf v s l place → (part : Part) × IsPartAt d s l part × HasPlace d part place
-  part_of s (InRegister n) place is = (OfCore n, refl, is)
-  part_of s (InFlag n) place is = (OfCore (n + 8), refl, is)
-  part_of s (AtByte a) place has =
+  part_of : (s : State) (l : Location) (place : ℕ) → IsLocation l → IsPlaceOf v s l place → (part : Part) × IsPartAt d s l part × HasPlace d part place
+  part_of s (InRegister n) place location is = (OfCore n, refl, (is, let low : n < 8 = ltb-true n 8 (both_of (nat_lt n 8) _ location).0 in omega arith))
+  part_of s (InFlag n) place location is = (OfCore (n + 8), refl, (is, let low : n < 6 = ltb-true n 6 location in omega arith))
+  part_of s (AtByte a) place location has =
       let cell = located.cells s a place has in
       (OfRegion cell.spot.region (pos a -ℤ pos cell.spot.base), (cell.spot, cell.spot_is, refl), cell.is_in)
 
   filled : (part : Part) → IsThere d part → (place : ℕ) × HasPlace d part place
-  filled (OfCore n) there = (n, refl)
+  filled (OfCore n) there = (n, (refl, there))
   filled (OfRegion region offset) there = located.division.fills region offset there
 
   pub places_are_covered : Covers m v
   places_are_covered = record {
     cells = λ s a place has. let cell = located.cells s a place has in located.division.behind cell.spot.region (pos a -ℤ pos cell.spot.base) place cell.is_in;
     used = λ o l place comes location reads has.
-        let part = part_of o.before l place has in
+        let part = part_of o.before l place location has in
         located.sets.used (here v o.before) comes.ready.value part.0 place comes.ready.has_value (located.accesses.reads o l part.0 comes location reads part.1) part.2;
     defined = λ o l goes location writes kept.
         let access = located.accesses.writes o l goes location writes kept in
@@ -115,7 +116,7 @@ module _ (m : Machine) (v : Map) (d : Division) (acc : Accesses) (located : IsLo
         let cell = located.cells o.before a place has in
         located.cells_back o.after a place (record { spot = cell.spot; spot_is = stays_there m v o goes (located.moves o goes) a unwritten kept d.key cell.spot cell.spot_is; is_in = cell.is_in });
     always = λ o l place goes location kept there must.
-        let part = part_of o.after l place there in
+        let part = part_of o.after l place location there in
         located.accesses.always o l part.0 goes location kept part.1
         (located.sets.always (here v o.before) goes.comes.ready.value part.0 place goes.comes.ready.has_value must part.2);
   }

@@ -5,8 +5,10 @@
 --     11 stop with EAX  21 jump to 23 if ZF is set           23 return
 --
 -- Each instruction has one byte, and a return slot has four, of which the lowest holds the place after the call.
-use Rattle.std.specs.Prelude.{◌≡◌, ◌⊎◌, ℕ, ◌+◌, ◌-◌, ◌%◌, ◌==◌, ◌&&◌, ◌||◌, nat_le, nat_lt, Bool, true, false, if◌then◌else◌, List, [], ◌∷◌, map, Option, Some, None, Contains}
+use Rattle.std.specs.Prelude.{◌≡◌, ◌⊎◌, ℕ, ℤ, pos, negsuc, ◌+◌, ◌-◌, ◌%◌, ◌<◌, ◌==◌, ◌&&◌, ◌||◌, nat_le, nat_lt, Bool, true, false, if◌then◌else◌, List, [], ◌∷◌, map, Option, Some, None, Contains}
 use Rattle.image_map.specs.declared.region.Activation.{Activation}
+use Rattle.image_map.specs.declared.region.RegionId.{RegionId}
+use Rattle.image_map.specs.declared.region.RegionId.TheVariants.{Global, Frame, OldFrame, Heap, OldHeap}
 use Rattle.flow_graph.specs.declared.graph.FlowNode.{FlowNode}
 use Rattle.ia32_semantics.specs.State.{State, Location, InRegister, InFlag, AtByte, put}
 use Rattle.ia32_semantics.specs.Machine.{Machine, Occurrence}
@@ -14,6 +16,7 @@ use Rattle.ia32_semantics.specs.Runs.{IsRun}
 use Rattle.ia32_semantics.specs.Dependence.{DataDependence, ControlDependence}
 use Rattle.call_strings.specs.declared.context.Node.{Node}
 use Rattle.slice_soundness.specs.Maps.{Map}
+use Rattle.slice_soundness.specs.Located.{Division, LiesInCell, Part, OfCore, OfRegion, Accesses}
 use Rattle.slice_soundness.specs.Tables.{Table, value_in, number_in}
 
 -- -- The machine
@@ -34,11 +37,22 @@ address_of chooses = 21
 address_of loads = 22
 address_of returns = 23
 
+-- the entry's return slot, and the callee's below it
+abbrev pub entry_base : ℕ
+entry_base = 0xBFF0000C
+
+abbrev pub inner_base : ℕ
+inner_base = 0xBFF00008
+
+-- the byte below the callee's
+abbrev pub stored_at : ℕ
+stored_at = 0xBFF00007
+
 abbrev pub entry_activation : Activation
-entry_activation = record { site = 0; callee = 10; base = 1000 }
+entry_activation = record { site = 0; callee = 10; base = entry_base }
 
 abbrev pub inner_activation : Activation
-inner_activation = record { site = 10; callee = 20; base = 996 }
+inner_activation = record { site = 10; callee = 20; base = inner_base }
 
 abbrev pub byte_or_zero : Option ℕ → ℕ
 byte_or_zero None = 0
@@ -64,7 +78,8 @@ pub record Happens (o : Occurrence Act) : Type 0 where
 pub record IsStart (s : State) : Type 0 where
   pub at : s.eip ≡ 10
   pub activations : s.activations ≡ entry_activation ∷ []
-  pub esp : s.registers 4 ≡ 1000
+  pub esp : s.registers 4 ≡ entry_base
+  pub slot : s.slot ≡ entry_base
 
 abbrev pub is_last : Act → Bool
 is_last stops = true
@@ -141,15 +156,16 @@ activations_of outside = entry_activation ∷ []
 activations_of inside = inner_activation ∷ entry_activation ∷ []
 
 abbrev pub esp_of : Known → ℕ
-esp_of outside = 1000
-esp_of inside = 996
+esp_of outside = entry_base
+esp_of inside = inner_base
 
 abbrev pub StandsFor : Known → State → Type 0
 StandsFor known s = (s.activations ≡ activations_of known) × (s.registers 4 ≡ esp_of known)
 
--- the slot of the call holds the place after it
-abbrev pub IsWhole : State → Type 0
-IsWhole s = (s.activations ≡ activations_of outside) ⊎ ((s.activations ≡ activations_of inside) × (s.memory 996 ≡ Some 11))
+-- the stack lies as it should, and the slot of the call holds the place after it
+pub record IsWhole (s : State) : Type 0 where
+  pub slot : s.slot ≡ entry_base
+  pub holds : (s.activations ≡ activations_of outside) ⊎ ((s.activations ≡ activations_of inside) × (s.memory inner_base ≡ Some 11))
 
 abbrev pub procedure_of : Known → ℕ
 procedure_of outside = 10
@@ -188,20 +204,63 @@ pub record IsSuccessor (from to : Node) (next : Known) : Type 0 where
   pub is_node : value_in rows from ≡ Some known
   pub among : Contains (successors_at from.at) (to, next)
 
--- Places of cells: 14 is the entry's return slot, 17 the word below it in the entry's frame; 16 is the callee's return slot, which
--- comes to lie over that word, and 15 the byte below it.
-unfoldable pub cell_at : Known → ℕ → Option ℕ
-cell_at outside a = if is_in_word 1000 a then Some 14 else (if is_in_word 996 a then Some 17 else None)
-cell_at inside a = if is_in_word 1000 a then Some 14 else (if is_in_word 996 a then Some 16 else (if a == 995 then Some 15 else None))
+-- -- Its cells, by offsets from the return slots
 
--- by how many calls are pending
-abbrev pub known_of : List Activation → Known
-known_of [] = outside
-known_of (oldest ∷ []) = outside
-known_of (newest ∷ before ∷ others) = inside
+-- of the callee's frame the return slot and the byte below it
+unfoldable pub callee_cell : ℤ → Option ℕ
+callee_cell (pos k) = if nat_lt k 4 then Some 16 else None
+callee_cell (negsuc k) = if k == 0 then Some 15 else None
 
-abbrev pub HasCell : State → ℕ → ℕ → Type 0
-HasCell s a place = cell_at (known_of s.activations) a ≡ Some place
+-- of the entry's frame the return slot and the word below it, over which the callee's return slot comes to lie
+unfoldable pub entry_cell : ℤ → Option ℕ
+entry_cell (pos k) = if nat_lt k 4 then Some 14 else None
+entry_cell (negsuc k) = if nat_lt k 4 then Some 17 else None
+
+unfoldable pub cell_of : RegionId → ℤ → Option ℕ
+cell_of Global offset = None
+cell_of (Frame procedure) offset = if procedure == 20 then callee_cell offset else (if procedure == 10 then entry_cell offset else None)
+cell_of (OldFrame procedure) offset = None
+cell_of (Heap key) offset = None
+cell_of (OldHeap key) offset = None
+
+abbrev pub division : Division
+division =
+    record {
+      key = λ x. 0;
+      IsDivided = λ region offset. (place : ℕ) × (cell_of region offset ≡ Some place);
+      IsInCell = λ region offset place. cell_of region offset ≡ Some place;
+    }
+
+-- a byte of the callee's return slot, and the byte below it
+abbrev pub IsSlotByte : Part → Type 0
+IsSlotByte part = (k : ℕ) × (k < 4) × (part ≡ OfRegion (Frame 20) (pos k))
+
+abbrev pub IsStoredByte : Part → Type 0
+IsStoredByte part = part ≡ OfRegion (Frame 20) (negsuc 0)
+
+abbrev pub ReadsPart : Act → Part → Type 0
+ReadsPart calls part = part ≡ OfCore 4
+ReadsPart stops part = part ≡ OfCore 0
+ReadsPart stores part = (part ≡ OfCore 1) ⊎ (part ≡ OfCore 4)
+ReadsPart chooses part = part ≡ OfCore 10
+ReadsPart loads part = (part ≡ OfCore 4) ⊎ IsStoredByte part
+ReadsPart returns part = (part ≡ OfCore 4) ⊎ IsSlotByte part
+
+abbrev pub WritesPart : Act → Part → Type 0
+WritesPart calls part = (part ≡ OfCore 4) ⊎ IsSlotByte part
+WritesPart stops part = ⊥
+WritesPart stores part = IsStoredByte part
+WritesPart chooses part = ⊥
+WritesPart loads part = part ≡ OfCore 0
+WritesPart returns part = part ≡ OfCore 4
+
+-- what is said of the act at a node
+abbrev pub AtNode : (Act → Part → Type 0) → Node → Part → Type 0
+AtNode P n part = (act : Act) × (n.at ≡ address_of act) × P act part
+
+-- it writes always what it may write
+abbrev pub accesses : Accesses
+accesses = record { Reads = AtNode ReadsPart; Writes = AtNode WritesPart; Always = AtNode WritesPart }
 
 -- -- Its graph
 
@@ -255,7 +314,7 @@ example =
       Below = λ one other. one ≡ other;
       IsWhole = IsWhole;
       StandsFor = StandsFor;
-      HasCell = HasCell;
+      HasCell = LiesInCell division;
       graph = map (λ row. flow row.0 row.1) rows;
       number = number_in rows;
     }
@@ -268,14 +327,14 @@ table = record { rows = rows; successors = λ n known. successors_at n.at; is_be
 abbrev pub start : Bool → State
 start zero_flag =
     record {
-      registers = λ n. if n == 4 then 1000 else n;
+      registers = λ n. if n == 4 then entry_base else n;
       flags = λ n. n == 2 && zero_flag;
       eip = 10;
       memory = λ a. None;
       activations = entry_activation ∷ [];
       blocks = [];
       allocs = [];
-      slot = 1000;
+      slot = entry_base;
     }
 
 abbrev pub made : Act → State → Occurrence Act
@@ -301,5 +360,5 @@ listed = 11 ∷ 20 ∷ 21 ∷ 22 ∷ []
 pub record HasDependences : Type 0 where
   pub is_run : IsRun machine run
   pub end_of_load : DataDependence machine true run (InRegister 0) 5 3
-  pub load_of_store : DataDependence machine true run (AtByte 995) 3 1
+  pub load_of_store : DataDependence machine true run (AtByte stored_at) 3 1
   pub load_of_branch : ControlDependence machine run 3 2

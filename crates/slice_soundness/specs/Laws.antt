@@ -1,6 +1,9 @@
 -- What follows for each run of a machine from premises on one step each. The project's own.
 use Rattle.std.specs.Prelude.{◌≡◌, ◌≢◌, ℕ, suc, ◌-◌, ◌<◌, ◌≤◌, Bool, true, false, List, ◌∷◌, ◌++◌, map, take, drop, slice_get, Some}
+use Rattle.image_map.specs.declared.image.Image.{Image}
 use Rattle.image_map.specs.declared.region.Activation.{Activation}
+use Rattle.image_map.specs.declared.region.Settings.{Settings}
+use Rattle.image_map.specs.Whole.{IsImage}
 use Rattle.flow_graph.specs.FlowGraph.{IsAt, Walk, Escapes}
 use Rattle.control_walks.specs.ControlWalks.{Controls}
 use Rattle.ia32_semantics.specs.declared.state.Allocation.{Allocation}
@@ -9,8 +12,9 @@ use Rattle.ia32_semantics.specs.Machine.{Machine}
 use Rattle.ia32_semantics.specs.Runs.{OccurrenceOf, stands_at, IsRun, IsComplete}
 use Rattle.ia32_semantics.specs.Dependence.{DataDependence, ControlDependence, DirectDependence, Chain, ListsDependences}
 use Rattle.call_strings.specs.declared.context.Node.{Node}
+use Rattle.ia32_semantics.specs.Ia32.{machine}
 use Rattle.slice_soundness.specs.Maps.{Map, IsNode, here, number_of}
-use Rattle.slice_soundness.specs.Premises.{IsReady, GoesOn, IsClean, IsGraphOf, KeepsSlots}
+use Rattle.slice_soundness.specs.Premises.{MachineLaws, IsReady, GoesOn, IsClean, IsGraphOf, KeepsSlots}
 use Rattle.slice_soundness.specs.Located.{Spot, spot_of, MovesBytes}
 use Rattle.slice_soundness.specs.Tables.{Table, IsKept, is_closed, is_quiet, IsFlow}
 use Rattle.slice_soundness.specs.Arrows.{EdgeTo, Arrow, ListsSlice}
@@ -150,3 +154,9 @@ PassedTablesAreClean m v = (t : Table v) → IsKept v t → is_closed v t m.entr
 
 abbrev pub RowsGiveGraph : (m : Machine) → Map → Type 0
 RowsGiveGraph m v = (t : Table v) → IsKept v t → IsFlow m v t → IsGraphOf m v
+
+-- -- The architecture
+
+-- The machine of the 32-bit Intel architecture that runs an image is as the argument asks of a machine.
+abbrev pub ArchitectureMeetsLaws : Type 0
+ArchitectureMeetsLaws = (image : Image) (settings : Settings) → IsImage image → MachineLaws (machine image settings)

@@ -72,7 +72,7 @@ pub record LiesInCell (d : Division) (s : State) (a place : ℕ) : Type 0 where
 
 -- -- Accesses
 
--- what an access may concern: a register or a flag by its place, or a byte by region and offset
+-- what an access may concern: a register or a flag by its place, of which there are 14, or a byte by region and offset
 pub data Part : Type 0 where
   OfCore : ℕ → Part
   OfRegion : RegionId → ℤ → Part
@@ -90,11 +90,11 @@ IsPartAt d s (InFlag n) part = part ≡ OfCore (n + 8)
 IsPartAt d s (AtByte a) part = (spot : Spot) × (spot_of d.key s a ≡ Some spot) × (part ≡ OfRegion spot.region (pos a -ℤ pos spot.base))
 
 abbrev pub IsThere : Division → Part → Type 0
-IsThere d (OfCore n) = Unit {0}
+IsThere d (OfCore n) = n < 14
 IsThere d (OfRegion region offset) = d.IsDivided region offset
 
 abbrev pub HasPlace : Division → Part → ℕ → Type 0
-HasPlace d (OfCore n) place = place ≡ n
+HasPlace d (OfCore n) place = (place ≡ n) × (n < 14)
 HasPlace d (OfRegion region offset) place = d.IsInCell region offset place
 
 -- The graph's sets by the accesses of its nodes: the places of whatever may be read and written, and no place that isn't written

@@ -6,8 +6,8 @@ ghost use Rattle.ia32_semantics.specs.Dependence.{ListsDependences};
 ghost use Rattle.slice_soundness.specs.Maps.{Map};
 ghost use Rattle.slice_soundness.specs.Premises.{Follows, IsGraphOf, Covers, SlotsAreKept, Describes};
 ghost use Rattle.slice_soundness.specs.Located.{Division, Accesses, IsLocated};
-ghost use Rattle.slice_soundness.specs.Laws.{KnowsStates, StatesAreWhole, RunsKeepSlots, ReturnsHome, LiveProceduresHaveNodes, UntouchedBytesStay, RunsMeetNodes, RunsWalk, DataHasEdges, CompleteRunsEscape, BranchesControl, DependencesAreArrows, DependencesAreChains, SlicesListDependences, PassedTablesAreClean, RowsGiveGraph};
-ghost use Rattle.slice_soundness.specs.Example.{machine, example, listed, HasDependences};
+ghost use Rattle.slice_soundness.specs.Laws.{ArchitectureMeetsLaws, KnowsStates, StatesAreWhole, RunsKeepSlots, ReturnsHome, LiveProceduresHaveNodes, UntouchedBytesStay, RunsMeetNodes, RunsWalk, DataHasEdges, CompleteRunsEscape, BranchesControl, DependencesAreArrows, DependencesAreChains, SlicesListDependences, PassedTablesAreClean, RowsGiveGraph};
+ghost use Rattle.slice_soundness.specs.Example.{machine, example, division, accesses, listed, HasDependences};
 
 /// A machine, and a map that an analysis made of its program.
 pub trait Analysis {
@@ -15,6 +15,12 @@ pub trait Analysis {
 
     ghost map: { Map };
 }
+
+/// The machine of the 32-bit Intel architecture is as is asked of a machine: where its runs start, that an address has one act, and
+/// that a branch isn't the last occurrence of a run.
+pub fn architecture_meets_laws()
+    ensures { ArchitectureMeetsLaws }
+{}
 
 /// The map knows each state of each run, and the next node is a successor.
 pub fn knows_states<A: Analysis>()
@@ -113,6 +119,7 @@ pub fn rows_give_graph<A: Analysis>()
 pub fn premises_can_be_met()
     ensures described { Describes machine example }
     ensures slots { SlotsAreKept machine example }
+    ensures layout { IsLocated machine example division accesses }
     ensures listed { ListsDependences machine true 11 listed }
     ensures depends { HasDependences }
 {}

@@ -6,9 +6,9 @@
 mod laws;
 
 pub use laws::{
-    Analysis, Layout, branches_control, complete_runs_escape, data_has_edges,
-    dependences_are_arrows, dependences_are_chains, knows_states, live_procedures_have_nodes,
-    passed_tables_are_clean, places_are_covered, premises_can_be_met, returns_home,
-    rows_give_graph, runs_keep_slots, runs_meet_nodes, runs_walk, slices_list_dependences,
-    states_are_whole, untouched_bytes_stay,
+    Analysis, Layout, architecture_meets_laws, branches_control, complete_runs_escape,
+    data_has_edges, dependences_are_arrows, dependences_are_chains, knows_states,
+    live_procedures_have_nodes, passed_tables_are_clean, places_are_covered, premises_can_be_met,
+    returns_home, rows_give_graph, runs_keep_slots, runs_meet_nodes, runs_walk,
+    slices_list_dependences, states_are_whole, untouched_bytes_stay,
 };

@@ -1,6 +1,6 @@
 -- The example.
 use Rattle.slice_soundness.proofs.laws.premises_can_be_met.Goals as goal
-use Rattle.slice_soundness.proofs.ExampleCoverLemmas.{slots_are_kept}
+use Rattle.slice_soundness.proofs.ExampleCoverLemmas.{slots_are_kept, located}
 use Rattle.slice_soundness.proofs.ExampleRunLemmas.{describes, lists_dependences, has_dependences}
 
 pub returns-clause-described : goal.returns-clause-described
@@ -14,3 +14,6 @@ returns-clause-listed c = lists_dependences
 
 pub returns-clause-depends : goal.returns-clause-depends
 returns-clause-depends c = has_dependences
+
+pub returns-clause-layout : goal.returns-clause-layout
+returns-clause-layout c = located
