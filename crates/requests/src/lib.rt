@@ -8,8 +8,9 @@ mod script;
 mod text;
 mod words;
 
+pub use line::content;
 pub use request::{LineCause, Request, Script, ScriptError};
-pub use script::{read_programs_script, read_script};
+pub use script::{first_line_len, read_programs_script, read_script};
 pub use text::write_slice;
 
 #[cfg(test)]

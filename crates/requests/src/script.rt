@@ -17,8 +17,8 @@ fn line_end(text: &[u8]) -> Option<usize>
     text.iter().position(|byte| *byte == b'\n')
 }
 
-// How many bytes the first line has, with its LF.
-fn first_line_len(text: &[u8]) -> usize
+/// How many bytes the first line has, with its LF, which the last line may lack.
+pub fn first_line_len(text: &[u8]) -> usize
     requires { 0 < length text.now }
     ensures { result ≡ min (position_or_len (λ byte. byte == 10) text.now + 1) (length text.now) }
 {
