@@ -1,0 +1,11 @@
+//! The cells of a region of memory: how cuts divide it, which cell has an offset, and which cells a range touches.
+#![tactic(auto)]
+
+mod cells;
+mod extents;
+mod touching;
+
+pub use cells::{Cells, CutList};
+
+#[cfg(test)]
+mod tests;
