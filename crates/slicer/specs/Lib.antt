@@ -1,0 +1,2 @@
+pub mod Slicer
+pub mod Search
