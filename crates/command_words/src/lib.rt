@@ -12,6 +12,3 @@ mod values;
 pub use line::{CommandLine, Entry, ExternKind, Options, Task, WordsError};
 pub use reading::parse;
 pub use text::Text;
-
-#[cfg(test)]
-mod tests;

@@ -11,8 +11,6 @@ mod read;
 mod relocate;
 mod strings;
 mod symbols;
-#[cfg(test)]
-mod tests;
 
 pub use error::ElfError;
 pub use read::read_image;

@@ -13,8 +13,6 @@ mod laws;
 mod memory;
 mod prefixes;
 mod rows;
-#[cfg(test)]
-mod tests;
 
 use crate::forms::finished;
 use crate::instruction::instruction;

@@ -7,6 +7,3 @@ mod text;
 
 pub use print::{print_instr, write_instr};
 pub use text::Text;
-
-#[cfg(test)]
-mod tests;
