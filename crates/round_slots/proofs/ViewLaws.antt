@@ -1,12 +1,15 @@
 -- What a changed view says of each lane, for those who call.
-use Rattle.std.proofs.Common.{◌≡◌, ◌≢◌, ℕ, ◌<◌, Option, Some, None, refl, sym, ap, ◌∙◌, subst, ⊎_elim, get_or-set_other}
+use Rattle.std.proofs.Common.{◌≡◌, ◌≢◌, ℕ, ◌<◌, Bool, false, Option, Some, None, List, [], ◌∷◌, ◌++◌, refl, sym, ap, ◌∙◌, subst, ⊎_elim, get_or-set_other}
+use Rattle.std.specs.List.{All}
+use Rattle.std.specs.Option.{IfSome, option_to_list}
+use Rattle.std.proofs.lemmas.List.Elements.{All-pop, All-same, All-from_recursion}
 use mathlib.Core.Logic.{dite}
 use native.Mathlib.Decide.{ℕ_discrete}
 use Rattle.atomic_table.specs.Seated.{TableId}
 use Rattle.round_slots.specs.declared.view.LaneView.{LaneView}
 use Rattle.round_slots.specs.declared.view.Known.{Known}
 use Rattle.round_slots.specs.declared.view.Key.{Key}
-use Rattle.round_slots.specs.View.{no_view, lane_of, with_lane}
+use Rattle.round_slots.specs.View.{no_view, lane_of, with_lane, first_view}
 use Rattle.round_slots.specs.Seats.{Place, Sits, Becomes, HasNoTurn, view_in}
 use Rattle.round_core.specs.declared.word.Word.{Word}
 use Rattle.round_slots.specs.declared.store.ClaimRefused.{ClaimRefused}
@@ -50,3 +53,14 @@ module _ {G : Type 0} where
       (λ c. elsewhere_after key old new lane _ c.loads.view h)
       (λ c. elsewhere_after key c.between new lane _ c.finds.view (elsewhere_after key old c.between lane _ c.loads.view h))
       r
+
+  -- seats that have done nothing, but for the last, which is taken out
+  pub pop_ready : {X : Type 0} (place : X → Place G) (pinned : X → Bool) (possible : G → ℕ → ℕ → Type 0) (id : TableId) (key : Key G) (xs ys : List X) (r : Option X) → xs ≡ ys ++ option_to_list r
+      → All (λ x. Sits possible id key (place x) × ((place x).me.0 ≡ first_view key) × HasNoTurn key (place x) × (pinned x ≡ false)) xs
+      → All (λ x. Sits possible id key (place x) × ((place x).me.0 ≡ first_view key) × HasNoTurn key (place x) × (pinned x ≡ false)) ys
+      × IfSome r (λ x. Sits possible id key (place x) × ((place x).me.0 ≡ first_view key) × HasNoTurn key (place x) × (pinned x ≡ false))
+  pop_ready place pinned possible id key xs ys r e h = All-pop (λ x. Sits possible id key (place x) × ((place x).me.0 ≡ first_view key) × HasNoTurn key (place x) × (pinned x ≡ false)) xs ys r e h
+
+  -- one seat of the store is all seats of the store
+  pub one_sits : {X : Type 0} (place : X → Place G) (possible : G → ℕ → ℕ → Type 0) (id : TableId) (key : Key G) (xs : List X) (x : X) → xs ≡ x ∷ [] → Sits possible id key (place x) → All (λ y. Sits possible id key (place y)) xs
+  one_sits place possible id key xs x e s = All-same (λ y. Sits possible id key (place y)) xs (x ∷ []) e (All-from_recursion (λ y. Sits possible id key (place y)) (x ∷ []) (s, tt))

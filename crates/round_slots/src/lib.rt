@@ -20,6 +20,8 @@ mod rounds;
 mod rule;
 mod slots;
 mod store;
+#[cfg(test)]
+mod tests;
 mod view;
 mod words;
 
