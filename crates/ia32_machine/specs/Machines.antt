@@ -1,0 +1,62 @@
+-- What the code's machine stands for: a state of the definitions. The project's own.
+use Rattle.std.specs.Prelude.{◌≡◌, ℕ, ◌<◌, ◌||◌, List, [], ◌∷◌, ◌++◌, reverse, slice_index, Some, is_some}
+use Rattle.image_map.specs.declared.image.Image.{Image}
+use Rattle.image_map.specs.declared.region.Block.{Block}
+use Rattle.image_map.specs.Queries.{byte_at, is_in_segment}
+use Rattle.ia32_semantics.specs.State.{State, word_at}
+use Rattle.ia32_semantics.specs.Operands.{is_set}
+use Rattle.ia32_semantics.specs.Outcome.{is_in_stack}
+use Rattle.ia32_semantics.specs.CallModel.{IsLaidOut}
+use Rattle.ia32_memory.specs.Mapped.{Mapped, bytes_of, is_in_first}
+use Rattle.ia32_memory.specs.Changes.{with_zeros}
+use Rattle.ia32_plan.specs.declared.state.Core.{Core}
+use Rattle.ia32_plan.specs.Views as views
+use Rattle.ia32_machine.specs.Opens.{KnowsOpen}
+use Rattle.ia32_machine.specs.declared.machine.Machine.{Machine}
+
+-- the activations stand in the code with the newest last
+abbrev pub state_of : Machine → State
+state_of m =
+    record (views.state_of m.core) {
+      activations = reverse m.frames.items;
+      blocks = m.blocks.items;
+      allocs = m.allocs.items;
+      slot = m.slot;
+    }
+
+-- A machine that runs this image: segments, stack and blocks lie as they should, and its memory knows what may be written and
+-- where the stack is.
+pub record RunsImage (image : Image) (m : Machine) : Type 0 where
+  pub laid_out : IsLaidOut image (state_of m)
+  pub knows : KnowsOpen image m.core.memory
+  pub stack : (a : ℕ) → is_in_first m.core.memory a ≡ is_in_stack m.slot a
+
+-- registers and flags are those of twelve words: EAX, ECX, EDX, EBX, EBP, ESI, EDI, CF, PF, ZF, SF, OF; ESP is the address of
+-- the return slot
+pub record HasWords (words : List ℕ) (core : Core) : Type 0 where
+  pub eax : slice_index core.regs 0 ≡ slice_index words 0
+  pub ecx : slice_index core.regs 1 ≡ slice_index words 1
+  pub edx : slice_index core.regs 2 ≡ slice_index words 2
+  pub ebx : slice_index core.regs 3 ≡ slice_index words 3
+  pub esp : slice_index core.regs 4 ≡ 0xBFF0000C
+  pub ebp : slice_index core.regs 5 ≡ slice_index words 4
+  pub esi : slice_index core.regs 6 ≡ slice_index words 5
+  pub edi : slice_index core.regs 7 ≡ slice_index words 6
+  pub cf : core.flags.cf ≡ is_set (slice_index words 7)
+  pub pf : core.flags.pf ≡ is_set (slice_index words 8)
+  pub zf : core.flags.zf ≡ is_set (slice_index words 9)
+  pub sf : core.flags.sf ≡ is_set (slice_index words 10)
+  pub of : core.flags.of ≡ is_set (slice_index words 11)
+
+-- the memory in which a run of an image starts, with the return word
+pub record IsStartMemory (image : Image) (memory : Mapped) : Type 0 where
+  pub bytes : (a byte : ℕ) → bytes_of memory a ≡ Some byte → byte < 256
+  pub halt : word_at (bytes_of memory) 0xBFF0000C ≡ Some 0xFFFF0000
+  pub mapped : (a : ℕ) → is_some (bytes_of memory a) ≡ (is_in_segment image a || is_in_stack 0xBFF0000C a)
+  pub known : (a byte : ℕ) → byte_at image a ≡ Some byte → bytes_of memory a ≡ Some byte
+  pub knows : KnowsOpen image memory
+  pub stack : (a : ℕ) → is_in_first memory a ≡ is_in_stack 0xBFF0000C a
+
+-- the state with a block of zeros more
+abbrev pub with_new_block : Block → State → State
+with_new_block block s = record s { memory = with_zeros s.memory block.base block.size; blocks = s.blocks ++ block ∷ [] }
