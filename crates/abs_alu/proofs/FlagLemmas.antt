@@ -1,0 +1,98 @@
+-- The flags after an operation are among those that may be.
+
+use Rattle.std.proofs.Common.{◌≡◌, ℕ, ◌||◌, Bool, true, false, cond, refl, sym, ◌∙◌, ap}
+use Rattle.std.specs.Int.RustNames.{bit_or}
+use Rattle.ia32_types.specs.declared.Flag.{Flag}
+use Rattle.ia32_types.specs.declared.Flag.TheVariants.{Cf, Pf, Zf, Sf, Of, Df}
+use Rattle.ia32_types.specs.Numbers.{is_same_flag}
+use Rattle.ia32_types.specs.Sets.{flag_bit, has_flag}
+use Rattle.ia32_types.proofs.NumberLemmas.{each_flag}
+use Rattle.ia32_types.proofs.SetLemmas.{has_bit, has_flag_of_both, has_flag_alone}
+use Rattle.ia32_semantics.specs.declared.flags.Flags.{Flags}
+use Rattle.ia32_semantics.specs.declared.flags.FlagsOut.{FlagsOut}
+use Rattle.ia32_semantics.specs.declared.flags.FlagOut.{FlagOut}
+use Rattle.ia32_semantics.specs.declared.flags.FlagOut.TheVariants as flag
+use Rattle.vset.specs.declared.facts.AbsFlags.{AbsFlags}
+use Rattle.abs_alu.specs.Flags.{may_be, bit_if, flag_set, done_to, flags_after, after}
+use Rattle.abs_alu.specs.Runs.{Allows, AllowsAll, IsFlagAfter, AreAfter}
+
+-- -- The set of the flags that pass a test
+
+itself : (b : Bool) → cond b true false ≡ b
+itself true = refl
+itself false = refl
+
+or_none : (b : Bool) → (b || false) ≡ b
+or_none true = refl
+or_none false = refl
+
+either : (a b c d : Bool) → a ≡ c → b ≡ d → (a || b) ≡ (c || d)
+either a b c d p q = ap (λ x. x || b) p ∙ ap (λ y. c || y) q
+
+no_bit : (x : Flag) → has_bit 0 (flag_bit x) ≡ false
+no_bit = each_flag (λ x. has_bit 0 (flag_bit x) ≡ false) refl refl refl refl refl refl
+
+same_either : (b : Bool) → b ≡ cond b true false
+same_either b = sym (itself b)
+
+has_one : (t : Bool) (g x : Flag) → has_bit (bit_if t g) (flag_bit x) ≡ cond (is_same_flag x g) t false
+has_one true g x = has_flag_alone g x ∙ same_either (is_same_flag x g)
+has_one false g x = no_bit x ∙ by_test (is_same_flag x g)
+  where
+    by_test : (b : Bool) → false ≡ cond b false false
+    by_test true = refl
+    by_test false = refl
+
+has_more : (t : Bool) (g x : Flag) (rest : ℕ) (r : Bool) → has_bit rest (flag_bit x) ≡ r → has_bit (bit_or (bit_if t g) rest) (flag_bit x) ≡ (cond (is_same_flag x g) t false || r)
+has_more t g x rest r is = has_flag_of_both (bit_if t g) rest x ∙ either _ _ _ _ (has_one t g x) is
+
+-- a flag is in the set where it passes the test
+pub flag_set_has : (has : Flag → Bool) (x : Flag) → has_flag (flag_set has) x ≡ has x
+unfolding flag_set
+flag_set_has has x =
+    has_more (has Cf) Cf x _ _ (has_more (has Pf) Pf x _ _ (has_more (has Zf) Zf x _ _ (has_more (has Sf) Sf x _ _ (has_more (has Of) Of x _ _ (has_one (has Df) Df x)))))
+    ∙ each_flag
+    (λ x. (cond (is_same_flag x Cf) (has Cf) false || (cond (is_same_flag x Pf) (has Pf) false || (cond (is_same_flag x Zf) (has Zf) false || (cond (is_same_flag x Sf) (has Sf) false || (cond (is_same_flag x Of) (has Of) false || cond (is_same_flag x Df) (has Df) false))))) ≡ has x)
+    (or_none (has Cf)) (or_none (has Pf)) (or_none (has Zf)) (or_none (has Sf)) (or_none (has Of)) refl x
+
+-- -- One flag
+
+-- a flag that may have had a value may have the one that it has afterwards
+kept_or_set : (out : FlagOut) (value : Bool) (has : Bool → Bool) (before : Bool) → has before ≡ true → IsFlagAfter out before value → may_be out value (has value) ≡ true
+kept_or_set flag.Kept value has before may is = ap has is ∙ may
+kept_or_set (flag.Set true) true has before may is = refl
+kept_or_set (flag.Set true) false has before may is = is
+kept_or_set (flag.Set false) true has before may is = sym is
+kept_or_set (flag.Set false) false has before may is = refl
+kept_or_set flag.Undefined value has before may is = refl
+
+-- whether a flag may have a value
+abbrev has_value : AbsFlags → Flag → Bool → Bool
+has_value f x true = has_flag f.one x
+has_value f x false = has_flag f.zero x
+
+allowed_has : (f : AbsFlags) (x : Flag) (v : Bool) → Allows f x v → has_value f x v ≡ true
+allowed_has f x true h = h
+allowed_has f x false h = h
+
+flag_allowed : (out : FlagsOut) (f : AbsFlags) (x : Flag) (before now : Bool) → Allows f x before → IsFlagAfter (done_to out x) before now → Allows (after out f) x now
+unfolding flags_after
+flag_allowed out f x before true may is =
+    flag_set_has (λ y. may_be (done_to out y) true (has_flag f.one y)) x
+    ∙ kept_or_set (done_to out x) true (has_value f x) before (allowed_has f x before may) is
+flag_allowed out f x before false may is =
+    flag_set_has (λ y. may_be (done_to out y) false (has_flag f.zero y)) x
+    ∙ kept_or_set (done_to out x) false (has_value f x) before (allowed_has f x before may) is
+
+pub after_allows : (out : FlagsOut) (f : AbsFlags) (before now : Flags) → AllowsAll f before → AreAfter out before now → AllowsAll (after out f) now
+after_allows out f before now may is = (
+  flag_allowed out f Cf before.cf now.cf may.0 is.0,
+  flag_allowed out f Pf before.pf now.pf may.1 is.1,
+  flag_allowed out f Zf before.zf now.zf may.2 is.2,
+  flag_allowed out f Sf before.sf now.sf may.3 is.3,
+  flag_allowed out f Of before.of now.of may.4 is.4,
+)
+
+-- what may be said of DF stays
+pub direction_stays : (out : FlagsOut) (f : AbsFlags) (v : Bool) → Allows f Df v → Allows (after out f) Df v
+direction_stays out f v may = flag_allowed out f Df v v may refl

@@ -1,0 +1,9 @@
+pub mod OpLemmas
+pub mod CanonicalLemmas
+pub mod WordLemmas
+pub mod ComputedLemmas
+pub mod FlagLemmas
+pub mod WrittenLemmas
+pub mod SumLemmas
+pub mod NumberLemmas
+pub mod ResultLemmas

@@ -1,0 +1,6 @@
+pub mod Computed
+pub mod Operands
+pub mod Words
+pub mod Flags
+pub mod Results
+pub mod Runs
