@@ -65,7 +65,7 @@ end_at returns at is last = absurd (false≢true last)
 flows : IsFlow machine example table
 flows = record {
   at = λ n a is. refl;
-  next = λ n to a next is comes. contains_map (λ come. number_in rows come.0) (successors_at n.at) (to, next) comes;
+  next = λ n to a b next is comes there. contains_map (λ come. number_in rows come.0) (successors_at n.at) (to, next) comes;
   branch = λ o a comes is branch. branch_at o.act o.before.eip comes.happens.at branch;
   end = λ o a comes is last. end_at o.act o.before.eip comes.happens.at last;
 }

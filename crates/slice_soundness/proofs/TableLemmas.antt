@@ -96,7 +96,7 @@ module _ (m : Machine) (v : Map) (t : Table v) (kept : IsKept v t) where
     stands = λ n a is. has_row (λ node. node.at ≡ n.at) n a is (flow.at n a is);
     steps = λ n to a b next is comes there.
         subst (λ k. Has v.graph (v.number n) (λ node. Contains node.next k)) (sym (kept.numbers to))
-        (has_row (λ node. Contains node.next (number_in t.rows to)) n a is (flow.next n to a next is (kept.successors n to a next is comes)));
+        (has_row (λ node. Contains node.next (number_in t.rows to)) n a is (flow.next n to a b next is (kept.successors n to a next is comes) there));
     branches = λ o comes branch. has_row (λ node. IsTrue node.branch) (here v o.before) comes.ready.value comes.ready.has_value (flow.branch o comes.ready.value comes comes.ready.has_value branch);
     ends = λ o comes last. has_row (λ node. IsTrue node.end) (here v o.before) comes.ready.value comes.ready.has_value (flow.end o comes.ready.value comes comes.ready.has_value last);
   }

@@ -64,6 +64,6 @@ is_quiet v t = list_all (λ row. not (v.is_warned row.0)) t.rows
 -- What the nodes of the graph have by the rows of the table. Access facts deliver it.
 pub record IsFlow (m : Machine) (v : Map) (t : Table v) : Type 0 where
   pub at : (n : Node) (a : v.Abs) → v.value n ≡ Some a → (t.flow n a).at ≡ n.at
-  pub next : (n to : Node) (a next : v.Abs) → v.value n ≡ Some a → Contains (t.successors n a) (to, next) → Contains (t.flow n a).next (number_in t.rows to)
+  pub next : (n to : Node) (a b next : v.Abs) → v.value n ≡ Some a → Contains (t.successors n a) (to, next) → v.value to ≡ Some b → Contains (t.flow n a).next (number_in t.rows to)
   pub branch : (o : OccurrenceOf m) (a : v.Abs) → Comes m v o → v.value (here v o.before) ≡ Some a → m.is_branch o.act ≡ true → IsTrue (t.flow (here v o.before) a).branch
   pub end : (o : OccurrenceOf m) (a : v.Abs) → Comes m v o → v.value (here v o.before) ≡ Some a → m.completes o ≡ true → IsTrue (t.flow (here v o.before) a).end
