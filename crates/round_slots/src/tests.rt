@@ -179,7 +179,10 @@ fn one_reads_while_one_publishes(rt: HostRuntime) -> Result<(), Fail> {
     let (store, mut seats) = one_lane(rt.alloc(), 2)?;
     let mut reader = last_seat(&store, &mut seats).ok_or("no seat")?;
     let mut writer = last_seat(&store, &mut seats).ok_or("no seat")?;
-    assert_eq!(rt; held_rounds(&rt, &store, &mut reader, &mut writer), [0, 0, 2]);
+    assert_eq!(rt;
+        held_rounds(&rt, &store, &mut reader, &mut writer),
+        [0, 0, 2]
+    );
     let last = Front {
         round: 2,
         claimed: false,
