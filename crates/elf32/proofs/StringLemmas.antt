@@ -1,14 +1,14 @@
 -- Texts that end in a NUL, in a part of a file and where that part stands in a buffer.
-use Rattle.std.proofs.Common.{◌≡◌, ℕ, suc, zero, ◌+◌, ◌-◌, ◌≤◌, ◌<◌, min, Bool, true, false, not, cond, nat_lt, Option, Some, None, List, [], ◌∷◌, length, take, drop, refl, ap, sym, subst, ◌∙◌, arith, length-drop, get_or, eqb-true, eq-eqb}
+use Rattle.std.proofs.Common.{◌≡◌, ℕ, suc, zero, ◌+◌, ◌-◌, ◌≤◌, ◌<◌, min, Bool, true, false, not, cond, nat_lt, Option, Some, None, List, [], ◌∷◌, ◌++◌, length, take, drop, refl, ap, sym, subst, ◌∙◌, arith, length-drop, get_or, eqb-true, eq-eqb}
 use Rattle.std.specs.Prelude.{◌/◌, ◌==◌, slice_get}
-use Rattle.std.specs.List.{filter_map, prefix_len, position_or_len}
+use Rattle.std.specs.List.{cons_option, filter_map, prefix_len, position_or_len}
 use Rattle.std.specs.Option.{option_map, option_map_or}
 use Rattle.std.proofs.lemmas.List.{get_or-drop, get_or_past}
-use Rattle.std.proofs.lemmas.Bool.{ltb-true, ltb-false}
+use Rattle.std.proofs.lemmas.Bool.{cond_both, ltb-true, ltb-false}
 use Rattle.std.proofs.lemmas.Bool.Decides.{nat_tests}
 use Rattle.std.proofs.lemmas.Option.{slice_get_past}
 use Rattle.image_map.specs.declared.symbols.SymbolPlace.{SymbolPlace}
-use Rattle.image_map.specs.Names.{symbol_at, symbols_at}
+use Rattle.image_map.specs.Names.{Symbol, symbol_at, symbols_at, value_of}
 use Rattle.image_map.specs.Texts.{is_nul, first_text, text_at}
 use Rattle.image_map.proofs.TextLemmas.{first_text-cons}
 use Rattle.elf32.specs.declared.fields.SectionHeader.{SectionHeader}
@@ -244,3 +244,18 @@ section_adds K f b ss buffer view tables table s t old new view_is table_is type
     let there = subst (λ u. K (Adds (symbols_at buffer old) (symbols_at buffer new) (filter_map (placed buffer b u) (rows (symbol_entry f s.sh_offset) (s.sh_size / 16))))) table_is here in
     let all = subst (λ g. K (Adds (symbols_at buffer old) (symbols_at buffer new) (filter_map g (rows (symbol_entry f s.sh_offset) (s.sh_size / 16))))) (strings_symbol f b ss buffer tables s h linked) there in
     subst (λ c. K (Adds (symbols_at buffer old) (symbols_at buffer new) (cond c (symbols_of f b ss s) []))) (sym typed) all
+
+-- -- A table with no strings
+
+no_place : (buffer : List ℕ) (b : ℕ) (t : StringTable) (e : SymbolEntry) → t.len ≡ 0 → placed buffer b t e ≡ None
+unfolding name_start
+no_place buffer b t e none =
+    ap (λ v. option_map (symbol_at buffer) (place_of b v e))
+    (cond_both (nat_lt e.st_name t.len) _ _ (λ v. v ≡ None) (λ yes. absurd (let lt : e.st_name < t.len = ltb-true e.st_name t.len yes in omega arith)) (λ _. refl))
+
+none_named : (buffer : List ℕ) (b : ℕ) (t : StringTable) (es : List SymbolEntry) → t.len ≡ 0 → filter_map (placed buffer b t) es ≡ []
+none_named buffer b t [] none = refl
+none_named buffer b t (e ∷ es) none = ap (λ o. cons_option o (filter_map (placed buffer b t) es)) (no_place buffer b t e none) ∙ none_named buffer b t es none
+
+pub none_added : (buffer : List ℕ) (b : ℕ) (t : StringTable) (es : List SymbolEntry) (found : List Symbol) → t.len ≡ 0 → Adds found found (filter_map (placed buffer b t) es)
+none_added buffer b t es found none = λ rest m. ap (λ v. value_of (found ++ (v ++ rest)) m) (sym (none_named buffer b t es none))

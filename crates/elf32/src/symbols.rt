@@ -110,6 +110,9 @@ fn add_table(
     ensures adds { OnOk result (Adds (symbols_at buffer.now found.old.places.items) (symbols_at buffer.now found.new.places.items) (filter_map (placed buffer.now bias strings.now) (rows (symbol_entry_spec bytes.now table.now.sh_offset) (table.now.sh_size / 16)))) }
     ensures found { OnOk result (IsFound buffer.now found.new.seen.items (symbols_at buffer.now found.new.places.items)) }
 {
+    if strings.len == 0 {
+        return Ok(());
+    }
     let count = table.sh_size / 16;
     for index in 0..count {
         let entry = symbol_entry(bytes, table.sh_offset, index);
