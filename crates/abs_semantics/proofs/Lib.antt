@@ -1,0 +1,5 @@
+pub mod CellLemmas
+pub mod ClearLemmas
+pub mod BelowLemmas
+pub mod JoinLemmas
+pub mod RowTests

@@ -1,0 +1,6 @@
+pub mod States
+pub mod Joins
+pub mod Below
+pub mod Resolve
+pub mod StandsFor
+pub mod Laws

@@ -1,0 +1,33 @@
+//! Laws of the definitions.
+
+ghost use Rattle.abs_semantics.specs.Laws.{BelowStandsForNoMore, ClearedCellsStandForMore, JoinedStandsForFirst, JoinedStandsForSecond, WidenedStandsForNew, WidenedStandsForOld};
+
+/// What lies below an abstract state stands for no more states.
+pub fn below_stands_for_no_more()
+    ensures { BelowStandsForNoMore }
+{}
+
+/// A state in which some cells may hold every value stands for no fewer states.
+pub fn cleared_cells_stand_for_more()
+    ensures { ClearedCellsStandForMore }
+{}
+
+/// What two abstract states are joined to stands for each state that the first stands for.
+pub fn joined_stands_for_first()
+    ensures { JoinedStandsForFirst }
+{}
+
+/// It stands for each state that the second stands for, where runs start at the same procedure.
+pub fn joined_stands_for_second()
+    ensures { JoinedStandsForSecond }
+{}
+
+/// What a new abstract state widens an old one to stands for each state that the new one stands for.
+pub fn widened_stands_for_new()
+    ensures { WidenedStandsForNew }
+{}
+
+/// It stands for each state that the old one stands for, where the old one lies below the new one.
+pub fn widened_stands_for_old()
+    ensures { WidenedStandsForOld }
+{}

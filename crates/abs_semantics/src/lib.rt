@@ -1,0 +1,10 @@
+//! Abstract states: what an analysis knows of a machine's state at a place of the program. Their parts, how two become one, and for
+//! which states of the machine one stands. These are definitions and laws on them, and no code.
+#![tactic(auto)]
+
+mod laws;
+
+pub use laws::{
+    below_stands_for_no_more, cleared_cells_stand_for_more, joined_stands_for_first,
+    joined_stands_for_second, widened_stands_for_new, widened_stands_for_old,
+};
