@@ -176,7 +176,7 @@ module _ (child : ℕ) (aged : Bool) (parent : ℕ) (distance : ℤ) where
 -- -- Sizes and alignments
 
 module _ (r : RegionId) (n : ℕ) where
-  first_known : (k : Known) (ks : List Known) (P : Type 0) → known_of r (k ∷ ks) ≡ Some n → (k.region ≡ r → k.number ≡ n → P) → (known_of r ks ≡ Some n → P) → P
+  pub first_known : (k : Known) (ks : List Known) (P : Type 0) → known_of r (k ∷ ks) ≡ Some n → (k.region ≡ r → k.number ≡ n → P) → (known_of r ks ≡ Some n → P) → P
   first_known k ks P known here later = by_cases (same_region k.region r) refl known
     where
       by_cases : (t : Bool) → same_region k.region r ≡ t → cond t (Some k.number) (known_of r ks) ≡ Some n → P

@@ -3,3 +3,4 @@ pub mod ClearLemmas
 pub mod BelowLemmas
 pub mod JoinLemmas
 pub mod RowTests
+pub mod StartLemmas

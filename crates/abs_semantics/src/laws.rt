@@ -1,6 +1,6 @@
 //! Laws of the definitions.
 
-ghost use Rattle.abs_semantics.specs.Laws.{BelowStandsForNoMore, ClearedCellsStandForMore, JoinedStandsForFirst, JoinedStandsForSecond, WidenedStandsForNew, WidenedStandsForOld};
+ghost use Rattle.abs_semantics.specs.Laws.{BelowStandsForNoMore, ClearedCellsStandForMore, JoinedStandsForFirst, JoinedStandsForSecond, WidenedStandsForNew, WidenedStandsForOld, StartsHaveStates};
 
 /// What lies below an abstract state stands for no more states.
 pub fn below_stands_for_no_more()
@@ -30,4 +30,9 @@ pub fn widened_stands_for_new()
 /// It stands for each state that the old one stands for, where the old one lies below the new one.
 pub fn widened_stands_for_old()
     ensures { WidenedStandsForOld }
+{}
+
+/// An abstract state stands for each state in which a run starts.
+pub fn starts_have_states()
+    ensures { StartsHaveStates }
 {}
