@@ -1,0 +1,9 @@
+pub mod AddLemmas
+pub mod OrderLemmas
+pub mod RowLemmas
+pub mod WindowLemmas
+pub mod ItemLemmas
+pub mod RegionLemmas
+pub mod ClosingLemmas
+pub mod ListingLemmas
+pub mod FollowingLemmas

@@ -1,0 +1,5 @@
+pub mod Cuts
+pub mod Closed
+pub mod Adding
+pub mod Following
+pub mod Listing
