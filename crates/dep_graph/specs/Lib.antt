@@ -1,2 +1,3 @@
 pub mod DepGraph
 pub mod Edges
+pub mod Plain

@@ -1,11 +1,12 @@
 //! The data edges of a flow graph: where what a node may define of a place may reach a node that may use it.
 //!
 //! For each place the nodes that may use it are taken 64 at a time, and each is followed back in a bit of its own as far as
-//! nodes don't define the place for certain.
+//! nodes don't define the place for certain. `laws` has the plain body, by single walks.
 #![tactic(auto)]
 
 mod def_rows;
 mod edges;
+pub mod laws;
 mod pairs;
 mod spread;
 

@@ -27,8 +27,8 @@ fn has_bit(word: u64, k: usize) -> bool
     (word >> k) % 2 == 1
 }
 
-// Sets one mark, where it is wished and there.
-fn set_if(row: &mut Items<bool>, node: usize, is_wished: bool)
+/// Sets one mark, where it is wished and there.
+pub fn set_if(row: &mut Items<bool>, node: usize, is_wished: bool)
     ensures len { length row.new ≡ length row.old }
     ensures marks { (n : ℕ) → n < length row.old → IsOn row.new n ↔ (IsOn row.old n ⊎ (IsTrue is_wished × (n ≡ node))) }
 {

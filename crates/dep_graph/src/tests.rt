@@ -1,5 +1,5 @@
 // Edges of a small loop, written out.
-use super::{data_edges, reaching};
+use super::{data_edges, laws, reaching};
 use flow_graph::{FlowGraph, FlowNode};
 use item_list::Items;
 use std::alloc::{AllocError, Global};
@@ -43,6 +43,9 @@ fn lists_edges(rt: HostRuntime) -> Result<(), Fail> {
         [(0, 1), (1, 1), (1, 2), (1, 3)].as_slice()
     );
     assert_eq!(rt; edges.sp.as_slice(), [(0, 3), (2, 3)].as_slice());
+    let plain = laws::data_edges(rt.alloc(), &graph)?;
+    assert!(rt; plain.ordinary.as_slice() == edges.ordinary.as_slice());
+    assert!(rt; plain.sp.as_slice() == edges.sp.as_slice());
     let rows = reaching(rt.alloc(), &graph, 0)?;
     assert!(rt; rows.has(1, 0) && rows.has(3, 1) && !rows.has(2, 0) && !rows.has(0, 0));
     assert!(rt; !rows.has(1, 2) && !rows.has(9, 0) && !rows.has(1, 9));
