@@ -88,7 +88,7 @@ fn fresh_rows<T: Numbered + Drop>(
     Ok(rows)
 }
 
-/// Puts each lane's first value into the lane's first slot.
+/// Puts each lane's first value into the lane's first slot. It comes to its end only where each is seen to stand there.
 fn put_firsts<T: Numbered + Drop>(
     rows: &[Vec<Slot<T>>],
     mut first: Vec<T>,
@@ -96,7 +96,7 @@ fn put_firsts<T: Numbered + Drop>(
     requires { AreAdmitted T.belongs first.items rows.now }
 {
     while let Some(value) = first.pop() {
-        put_first(rows[first.len()].as_slice(), value)?;
+        put_first(rows[first.len()].as_slice(), value)?.leave();
     }
     Ok(())
 }

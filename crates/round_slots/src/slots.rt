@@ -1,6 +1,6 @@
 //! The slots of one lane: who may read a value, and who may put one.
 
-ghost use Rattle.std.specs.Prelude.{◌≡◌, ℕ, ◌<◌, ◌≤◌, length, slice_index_or, IfSome};
+ghost use Rattle.std.specs.Prelude.{◌≡◌, ◌≢◌, ℕ, ◌<◌, ◌≤◌, length, slice_index_or, IfOk, IfSome};
 ghost use Rattle.round_slots.specs.Rows.{Admits, Shows, holds_number};
 
 use crate::numbered::Numbered;
@@ -86,7 +86,8 @@ fn holds_round<T: Numbered>(content: &Option<Held<T>>, round: u32) -> bool
 
 /// A slot that nobody reads or writes, other than this one, with the right to write it.
 fn take_other<T: Numbered>(row: &[Slot<T>], named: u32) -> Option<(usize, Right<'_, T>)>
-    ensures { IfSome result (λ taken. (taken.0 < length row.now) × (taken.1.right ≡ 2) × ((d : _) → taken.1.tag ≡ slice_index_or row.now taken.0 d)) }
+    ensures right { IfSome result (λ taken. (taken.0 < length row.now) × (taken.1.right ≡ 2) × ((d : _) → taken.1.tag ≡ slice_index_or row.now taken.0 d)) }
+    ensures other { IfSome result (λ taken. taken.0 ≢ named) }
 {
     for (index, slot) in row.iter().enumerate() {
         if index != named as usize {
@@ -102,7 +103,8 @@ fn take_other<T: Numbered>(row: &[Slot<T>], named: u32) -> Option<(usize, Right<
 pub fn put<T: Numbered + Drop, R: Wait>(rt: &R, row: &[Slot<T>], named: u32, value: T) -> u32
     requires admits { Admits T.belongs value row.now }
     requires few { length row.now ≤ 14 }
-    ensures { result < length row.now }
+    ensures within { result < length row.now }
+    ensures other { result ≢ named }
 {
     for _ in rt.forever() {
         if let Some((index, right)) = take_other(row, named) {
@@ -113,17 +115,28 @@ pub fn put<T: Numbered + Drop, R: Wait>(rt: &R, row: &[Slot<T>], named: u32, val
     unreachable!()
 }
 
-/// Puts the value into the first slot of a row that nobody has used yet.
+/// Puts the value into the first slot of a row that nobody has used yet, and enters it: the right to read what stands
+/// there then.
 ///
 /// # Errors
-/// Where the slot can't be taken, which doesn't happen while it is free.
-pub fn put_first<T: Numbered + Drop>(row: &[Slot<T>], value: T) -> Result<(), AllocError>
+/// Where the slot can't be taken or entered, which doesn't happen while nobody else knows it.
+pub fn put_first<T: Numbered + Drop>(row: &[Slot<T>], value: T) -> Result<Right<'_, T>, AllocError>
     requires some { 0 < length row.now }
     requires admits { Admits T.belongs value row.now }
+    ensures stands { IfOk result (λ right. (right.right ≡ 1) × ((x : T) × Shows right.value x × (T.number x ≡ T.number value) × T.belongs right.tag.tag.value right.tag.lane x)
+        × ((d : _) → right.tag ≡ slice_index_or row.now 0 d)) }
 {
+    let word = Word {
+        round: value.round(),
+        claimed: false,
+        slot: 0,
+    };
     let Some(right) = take(&row[0]) else {
         return Err(AllocError);
     };
     right.put(Some(Held(value)), PRESENT);
-    Ok(())
+    match enter_round(row, word) {
+        Some(right) => Ok(right),
+        None => Err(AllocError),
+    }
 }

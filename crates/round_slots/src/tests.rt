@@ -150,6 +150,28 @@ fn held_rounds<R: Wait>(
     [first, still, last]
 }
 
+/// What the lane shows to a seat that took another in, when both have published.
+fn front_after_join<R: Wait>(
+    rt: &R,
+    store: &Store<Twice>,
+    seat: &mut Seat<Twice>,
+    other: Seat<Twice>,
+) -> Front
+    requires sits { Sits ⟦<Twice as Numbered>⟧.possible store.now.words.shared.table_id store.now.words.shared.key seat.old.place }
+    requires other_sits { Sits ⟦<Twice as Numbered>⟧.possible store.now.words.shared.table_id store.now.words.shared.key other.place }
+    requires lanes { store.now.words.shared.key.lanes ≡ 1 }
+    requires other_unpinned { other.pinned ≡ false }
+    requires no_turn { HasNoTurn store.now.words.shared.key seat.old.place }
+    requires other_no_turn { HasNoTurn store.now.words.shared.key other.place }
+    ensures sits { Sits ⟦<Twice as Numbered>⟧.possible store.now.words.shared.table_id store.now.words.shared.key seat.new.place }
+{
+    let mut other = other;
+    advance(rt, store, seat, 0);
+    advance(rt, store, &mut other, 0);
+    store.join(seat, other);
+    store.load(seat, 0)
+}
+
 /// What the lane shows last, when the store is closed with this seat.
 fn last_front(
     alloc: Global,
@@ -188,5 +210,20 @@ fn one_reads_while_one_publishes(rt: HostRuntime) -> Result<(), Fail> {
         claimed: false,
     };
     assert!(rt; last_front(rt.alloc(), store, writer)? == Some(last));
+    Ok(())
+}
+
+#[test]
+fn two_seats_become_one(rt: HostRuntime) -> Result<(), Fail> {
+    let (store, mut seats) = one_lane(rt.alloc(), 2)?;
+    let mut seat = last_seat(&store, &mut seats).ok_or("no seat")?;
+    let other = last_seat(&store, &mut seats).ok_or("no seat")?;
+    let front = front_after_join(&rt, &store, &mut seat, other);
+    let second = Front {
+        round: 2,
+        claimed: false,
+    };
+    assert!(rt; front == second);
+    assert!(rt; last_front(rt.alloc(), store, seat)? == Some(second));
     Ok(())
 }

@@ -3,7 +3,7 @@ use Rattle.std.proofs.lemmas.List.Elements.{All-from_recursion}
 use Rattle.round_slots.proofs.slots.put.Goals as goal
 
 pub put-requires : goal.put-requires
-put-requires g c = let t = c.in-Some-take_other.ensures in let d = c.in-Some-take_other.right.tag in (
+put-requires g c = let t = c.in-Some-take_other.ensures.right in let d = c.in-Some-take_other.right.tag in (
   t.1,
   omega arith,
   refl,
