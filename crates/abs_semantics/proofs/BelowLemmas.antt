@@ -25,7 +25,10 @@ use Rattle.vset.specs.World.{World, Thing, TheImage, ActivationAt, BlockAt, IsIn
 use Rattle.vset.specs.Members.{HasValue}
 use Rattle.vset.proofs.BelowLemmas.{below_has}
 use Rattle.abs_cmp.specs.Facts.{IsCompared}
-use Rattle.abs_semantics.specs.States.{AbsState, CellValue, Link, Known, value_in, value_at, has_procedure, known_of, has_region, LinksAreCanonical}
+use Rattle.abs_semantics.specs.declared.parts.CellValue.{CellValue}
+use Rattle.abs_semantics.specs.declared.parts.Link.{Link}
+use Rattle.abs_semantics.specs.declared.parts.Known.{Known}
+use Rattle.abs_semantics.specs.States.{AbsState, value_in, value_at, has_procedure, known_of, has_region, LinksAreCanonical}
 use Rattle.abs_semantics.specs.Joins.{same_flag, same_link, same_place, same_fact}
 use Rattle.abs_semantics.specs.Below.{register_numbers, flag_numbers, implies, is_flag_below, is_cell_below, is_link_below, is_at_most, is_size_below, is_number, is_align_below, is_fact_below}
 use Rattle.abs_semantics.specs.StandsFor.{StandsFor, world_of, IsLinked, IsSized, IsTrueAt, IsComparedIn, HoldsFact, flags_of}

@@ -5,7 +5,8 @@ use Rattle.image_map.specs.declared.region.Cell.{Cell}
 use Rattle.image_map.specs.Regions.{same_cell, cell_before}
 use Rattle.image_map.proofs.OrderLaws.{same_cell-equal}
 use Rattle.vset.specs.Values.{Values, Top, Parts, CanonicalValues}
-use Rattle.abs_semantics.specs.States.{CellValue, value_in, inserted, with_value, rebuilt, CellsAreCanonical}
+use Rattle.abs_semantics.specs.declared.parts.CellValue.{CellValue}
+use Rattle.abs_semantics.specs.States.{value_in, inserted, with_value, rebuilt, CellsAreCanonical}
 
 -- a cell's value among some is canonical
 pub value_canonical : (c : Cell) (es : List CellValue) → CellsAreCanonical es → CanonicalValues (value_in c es)

@@ -16,7 +16,9 @@ use Rattle.vset.specs.Operations.{join, widen}
 use Rattle.vset.specs.World.{BlockAt, region_of, is_called}
 use Rattle.vset.specs.Members.{HasValue}
 use Rattle.vset.proofs.MemberLemmas.{join_has_left, join_has_right, widen_has_right}
-use Rattle.abs_semantics.specs.States.{AbsState, Link, Known, value_at, has_procedure, known_of, has_region, LinksAreCanonical}
+use Rattle.abs_semantics.specs.declared.parts.Link.{Link}
+use Rattle.abs_semantics.specs.declared.parts.Known.{Known}
+use Rattle.abs_semantics.specs.States.{AbsState, value_at, has_procedure, known_of, has_region, LinksAreCanonical}
 use Rattle.abs_semantics.specs.Joins.{held_by, may_hold, joined_value, widened_value, with_number, numbers_of, same_link, offsets_of, link_before, with_link, links_of, widened_link, agreed, joined_align, put_known, with_known, known_anew, lesser, with_size, sizes_of, fact_of, same_fact, joined_state}
 use Rattle.abs_semantics.specs.StandsFor.{world_of, IsLinked, IsSized, HoldsFact}
 use Rattle.abs_semantics.specs.Laws.{JoinedStandsForFirst, JoinedStandsForSecond, WidenedStandsForNew, WidenedStandsForOld}

@@ -3,4 +3,5 @@ pub mod ClearLemmas
 pub mod BelowLemmas
 pub mod JoinLemmas
 pub mod RowTests
+pub mod AccessTests
 pub mod StartLemmas

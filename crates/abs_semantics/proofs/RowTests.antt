@@ -10,8 +10,12 @@ use Rattle.strided.specs.Interval.{one}
 use Rattle.strided.specs.Operations.{add, wrap, fitted, spaced, stepped}
 use Rattle.vset.specs.Values.{Values, Top, Parts}
 use Rattle.vset.specs.Operations.{part}
-use Rattle.abs_semantics.specs.States.{AbsState, Link, Known}
-use Rattle.abs_semantics.specs.Resolve.{Reason, UnknownWrite, OutOfRegion, HeapOverrun, Resolved, verdict, rising_onto, levels, resolve}
+use Rattle.abs_semantics.specs.declared.parts.Link.{Link}
+use Rattle.abs_semantics.specs.declared.parts.Known.{Known}
+use Rattle.abs_semantics.specs.States.{AbsState}
+use Rattle.abs_semantics.specs.declared.parts.Reason.{Reason}
+use Rattle.abs_semantics.specs.declared.parts.Reason.TheVariants.{UnknownWrite, OutOfRegion, HeapOverrun}
+use Rattle.abs_semantics.specs.Resolve.{Resolved, verdict, rising_onto, levels, resolve}
 
 -- -- States and addresses
 

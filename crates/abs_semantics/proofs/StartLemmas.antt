@@ -16,7 +16,8 @@ use Rattle.vset.specs.Operations.{part}
 use Rattle.vset.specs.World.{Thing, TheImage, ActivationAt, BlockAt, IsIn, base_of, region_of, is_called}
 use Rattle.vset.specs.Members.{HasValue, IsPartMember}
 use Rattle.abs_semantics.specs.StandsFor.{StandsFor, world_of}
-use Rattle.abs_semantics.specs.Laws.{entry_state, StartsHaveStates}
+use Rattle.abs_semantics.specs.Start.{entry_state}
+use Rattle.abs_semantics.specs.Laws.{StartsHaveStates}
 use Rattle.abs_semantics.proofs.BelowLemmas.{first_known, none_some}
 
 empty_split : {X : Type 0} (newer older : List X) (x : X) → [] ≡ newer ++ (x ∷ older) → ⊥

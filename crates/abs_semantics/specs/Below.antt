@@ -4,7 +4,10 @@ use Rattle.std.specs.List.{list_any, list_all}
 use Rattle.strided.specs.Operations as interval
 use Rattle.vset.specs.declared.facts.CmpFact.{CmpFact}
 use Rattle.vset.specs.Operations as values
-use Rattle.abs_semantics.specs.States.{AbsState, CellValue, Link, Known, value_at, has_procedure, known_of, has_region}
+use Rattle.abs_semantics.specs.declared.parts.CellValue.{CellValue}
+use Rattle.abs_semantics.specs.declared.parts.Link.{Link}
+use Rattle.abs_semantics.specs.declared.parts.Known.{Known}
+use Rattle.abs_semantics.specs.States.{AbsState, value_at, has_procedure, known_of, has_region}
 use Rattle.abs_semantics.specs.Joins.{same_link, same_fact}
 
 -- the numbers of registers and of flags

@@ -13,7 +13,9 @@ use Rattle.vset.specs.declared.part.Both.TheVariants.{Joined, Widened}
 use Rattle.vset.specs.Values.{Values, Top, only_number}
 use Rattle.vset.specs.Operations.{both_of, join, widen, same_interval}
 use Rattle.ia32_types.specs.Numbers.{reg_number}
-use Rattle.abs_semantics.specs.States.{AbsState, Link, Known, value_at, known_of, has_region, rebuilt}
+use Rattle.abs_semantics.specs.declared.parts.Link.{Link}
+use Rattle.abs_semantics.specs.declared.parts.Known.{Known}
+use Rattle.abs_semantics.specs.States.{AbsState, value_at, known_of, has_region, rebuilt}
 
 -- -- What a cell may hold, by its length and the value alone
 

@@ -8,13 +8,9 @@ use Rattle.abs_semantics.specs.Joins.{joined_state, widened_state}
 use Rattle.abs_semantics.specs.Below.{state_below}
 use Rattle.abs_semantics.specs.StandsFor.{StandsFor}
 use Rattle.image_map.specs.declared.image.Image.{Image}
-use Rattle.image_map.specs.declared.region.RegionId.TheVariants.{Frame}
 use Rattle.image_map.specs.declared.region.Settings.{Settings}
 use Rattle.ia32_semantics.specs.CallModel.{IsStart}
-use Rattle.strided.specs.Interval.{one}
-use Rattle.vset.specs.Values.{Parts}
-use Rattle.vset.specs.Operations.{part}
-use Rattle.std.specs.Prelude.{◌==◌, not, pos, [], ◌∷◌, None}
+use Rattle.abs_semantics.specs.Start.{entry_state}
 
 -- what is below stands for no more
 abbrev pub BelowStandsForNoMore : Type 0
@@ -49,23 +45,6 @@ abbrev pub WidenedStandsForOld : Type 0
 WidenedStandsForOld =
     (lane : ℕ) (old new : AbsState) (s : State) → HasCanonical old → HasCanonical new → state_below old new ≡ true
     → StandsFor lane old s → StandsFor lane (widened_state old new) s
-
--- What is known where a run starts, the bytes of the image left out: ESP points to the entry's return slot, which lies 12 above a
--- multiple of 16, and DF is clear.
-abbrev pub entry_state : ℕ → AbsState
-entry_state entry =
-    record {
-      registers = λ n. if n == 4 then Parts (part (Frame entry) (one (pos 0)) ∷ []) else Top;
-      flags = λ n t. if n == 5 then not t else true;
-      cells = [];
-      live = entry ∷ [];
-      older = [];
-      links = [];
-      aligns = record { region = Frame entry; number = 12 } ∷ [];
-      blocks = [];
-      fact = None;
-      root = entry;
-    }
 
 -- it stands for each state in which a run starts
 abbrev pub StartsHaveStates : Type 0

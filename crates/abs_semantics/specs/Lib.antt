@@ -2,5 +2,10 @@ pub mod States
 pub mod Joins
 pub mod Below
 pub mod Resolve
+pub mod Touching
+pub mod Accesses
+pub mod Ranges
+pub mod Operands
+pub mod Start
 pub mod StandsFor
 pub mod Laws

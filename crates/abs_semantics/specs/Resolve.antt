@@ -14,13 +14,10 @@ use Rattle.strided.specs.Operations as interval
 use Rattle.vset.specs.declared.part.Part.{Part}
 use Rattle.vset.specs.Values.{Values, Top, Parts}
 use Rattle.vset.specs.Operations.{part, same_part}
-use Rattle.abs_semantics.specs.States.{AbsState, Link, has_procedure, known_of}
-
--- why an address may mean places that aren't listed
-pub data Reason : Type 0 where
-  UnknownWrite : Reason
-  OutOfRegion : Reason
-  HeapOverrun : Reason
+use Rattle.abs_semantics.specs.declared.parts.Link.{Link}
+use Rattle.abs_semantics.specs.declared.parts.Reason.{Reason}
+use Rattle.abs_semantics.specs.declared.parts.Reason.TheVariants.{UnknownWrite, OutOfRegion, HeapOverrun}
+use Rattle.abs_semantics.specs.States.{AbsState, has_procedure, known_of}
 
 -- what becomes of an interval in a region
 pub data Verdict : Type 0 where

@@ -14,7 +14,8 @@ use Rattle.vset.specs.declared.facts.CmpPlace.TheVariants as place
 use Rattle.vset.specs.World.{World, Thing, TheImage, ActivationAt, BlockAt, IsIn, base_of, region_of, is_called}
 use Rattle.vset.specs.Members.{HasValue}
 use Rattle.abs_cmp.specs.Facts.{IsCompared}
-use Rattle.abs_semantics.specs.States.{AbsState, Link, value_at, has_procedure, known_of}
+use Rattle.abs_semantics.specs.declared.parts.Link.{Link}
+use Rattle.abs_semantics.specs.States.{AbsState, value_at, has_procedure, known_of}
 
 abbrev pub world_of : State → World
 world_of s = record { activations = s.activations; allocs = s.allocs }

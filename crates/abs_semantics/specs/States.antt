@@ -8,27 +8,12 @@ use Rattle.image_map.specs.declared.region.Cell.{Cell}
 use Rattle.image_map.specs.declared.region.RegionId.{RegionId}
 use Rattle.image_map.specs.declared.region.RegionId.TheVariants.{Global, Frame, OldFrame, Heap, OldHeap}
 use Rattle.image_map.specs.Regions.{same_region, same_cell, cell_before}
-use Rattle.strided.specs.Interval.{Interval, IsCanonical}
+use Rattle.strided.specs.Interval.{IsCanonical}
 use Rattle.vset.specs.declared.facts.CmpFact.{CmpFact}
 use Rattle.vset.specs.Values.{Values, Top, Parts, CanonicalValues}
-
--- what a cell may hold
-pub record CellValue : Type 0 where
-  pub cell : Cell
-  pub value : Values
-
--- An activation of `child`, the newest of its procedure unless it is aged, was called by one of `parent`, and its base lies so far
--- from the parent's.
-pub record Link : Type 0 where
-  pub child : ℕ
-  pub aged : Bool
-  pub parent : ℕ
-  pub off : Interval
-
--- a number that is known of a region
-pub record Known : Type 0 where
-  pub region : RegionId
-  pub number : ℕ
+use Rattle.abs_semantics.specs.declared.parts.CellValue.{CellValue}
+use Rattle.abs_semantics.specs.declared.parts.Known.{Known}
+use Rattle.abs_semantics.specs.declared.parts.Link.{Link}
 
 pub record AbsState : Type 0 where
   -- by the numbers of registers: EAX, ECX, EDX, EBX, ESP, EBP, ESI, EDI
