@@ -4,4 +4,10 @@ pub mod BelowLemmas
 pub mod JoinLemmas
 pub mod RowTests
 pub mod AccessTests
+pub mod StackLemmas
+pub mod VerdictLemmas
+pub mod LevelLemmas
+pub mod ChainLemmas
+pub mod ClimbLemmas
+pub mod OwnerLemmas
 pub mod StartLemmas

@@ -1,12 +1,14 @@
 -- What follows from the definitions of abstract states. The project's own.
-use Rattle.std.specs.Prelude.{◌≡◌, ℕ, Bool, true, if◌then◌else◌}
+use Rattle.std.specs.Prelude.{◌≡◌, ℕ, Bool, true, if◌then◌else◌, []}
 use Rattle.image_map.specs.declared.region.Cell.{Cell}
 use Rattle.ia32_semantics.specs.State.{State}
-use Rattle.vset.specs.Values.{Top}
+use Rattle.vset.specs.Values.{Values, Top}
 use Rattle.abs_semantics.specs.States.{AbsState, HasCanonical, value_at, rebuilt}
 use Rattle.abs_semantics.specs.Joins.{joined_state, widened_state}
 use Rattle.abs_semantics.specs.Below.{state_below}
 use Rattle.abs_semantics.specs.StandsFor.{StandsFor}
+use Rattle.abs_semantics.specs.Resolve.{resolve}
+use Rattle.abs_semantics.specs.Ownership.{IsKnown, IsRange, IsOwnedAmong}
 use Rattle.image_map.specs.declared.image.Image.{Image}
 use Rattle.image_map.specs.declared.region.Settings.{Settings}
 use Rattle.ia32_semantics.specs.CallModel.{IsStart}
@@ -50,3 +52,11 @@ WidenedStandsForOld =
 abbrev pub StartsHaveStates : Type 0
 StartsHaveStates =
     (image : Image) (settings : Settings) (lane : ℕ) (s : State) → IsStart image settings s → StandsFor lane (entry_state settings.entry) s
+
+-- -- Where addresses lie
+
+-- An address that is resolved without a reason means bytes of one of the places that are told.
+abbrev pub ResolvedBytesAreOwned : Type 0
+ResolvedBytesAreOwned =
+    (image : Image) (lane : ℕ) (a : AbsState) (p : ℕ) (s : State) (v : Values) (at count len : ℕ) → IsKnown image lane a p s → IsRange lane s v at count len
+    → (resolve a p v len).reasons ≡ [] → IsOwnedAmong lane s at count (resolve a p v len).entries

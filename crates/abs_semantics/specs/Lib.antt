@@ -8,4 +8,5 @@ pub mod Ranges
 pub mod Operands
 pub mod Start
 pub mod StandsFor
+pub mod Ownership
 pub mod Laws

@@ -5,7 +5,7 @@ use Rattle.image_map.specs.declared.image.Image.{Image}
 use Rattle.image_map.specs.declared.region.Cell.{Cell}
 use Rattle.image_map.specs.declared.region.RegionId.TheVariants.{Global, Frame}
 use Rattle.image_map.specs.Queries.{byte_at}
-use Rattle.image_map.specs.Regions.{same_region}
+use Rattle.image_map.specs.Regions.{same_region, same_cell}
 use Rattle.ia32_semantics.specs.State.{bytes_at, little_endian}
 use Rattle.ia32_semantics.specs.Step.{HALT}
 use Rattle.alocs.specs.Cells.{Division, cells_of}
@@ -50,16 +50,21 @@ abbrev pub image_value : Image → Cell → Values
 image_value image c =
     if has_length 1 c || (has_length 2 c || has_length 4 c) then number_or_top (image_number image c) else Top
 
+-- the return slot of a procedure's newest activation
+abbrev pub slot_cell : ℕ → Cell
+slot_cell procedure = record { region = Frame procedure; start = pos 0; end = pos 4 }
+
 -- the image's bytes, and HALT in the entry's return slot
-abbrev pub first_value : Image → Cell → Values
-first_value image c = if same_region c.region Global then image_value image c else word_number HALT
+abbrev pub first_value : Image → ℕ → Cell → Values
+first_value image entry c =
+    if same_region c.region Global then image_value image c else (if same_cell (slot_cell entry) c then word_number HALT else Top)
 
 -- the cells of the image, and the entry's return slot where it is one
 abbrev pub first_cells : Division → ℕ → List Cell
 first_cells d entry = cells_of d Global ++ listed (cell_at d (Frame entry) (pos 0) 4)
 
 unfoldable pub initial_state : Image → Division → ℕ → AbsState
-initial_state image d entry = record (entry_state entry) { cells = rebuilt (first_value image) (map without_value (first_cells d entry)) }
+initial_state image d entry = record (entry_state entry) { cells = rebuilt (first_value image entry) (map without_value (first_cells d entry)) }
 
 -- -- The form of states
 

@@ -1,6 +1,6 @@
 //! Laws of the definitions.
 
-ghost use Rattle.abs_semantics.specs.Laws.{BelowStandsForNoMore, ClearedCellsStandForMore, JoinedStandsForFirst, JoinedStandsForSecond, WidenedStandsForNew, WidenedStandsForOld, StartsHaveStates};
+ghost use Rattle.abs_semantics.specs.Laws.{BelowStandsForNoMore, ClearedCellsStandForMore, JoinedStandsForFirst, JoinedStandsForSecond, WidenedStandsForNew, WidenedStandsForOld, StartsHaveStates, ResolvedBytesAreOwned};
 
 /// What lies below an abstract state stands for no more states.
 pub fn below_stands_for_no_more()
@@ -35,4 +35,10 @@ pub fn widened_stands_for_old()
 /// An abstract state stands for each state in which a run starts.
 pub fn starts_have_states()
     ensures { StartsHaveStates }
+{}
+
+/// Where an abstract state stands for a state and resolves an address without a reason, the bytes that the
+/// address means are those of one place that is told.
+pub fn resolved_bytes_are_owned()
+    ensures { ResolvedBytesAreOwned }
 {}

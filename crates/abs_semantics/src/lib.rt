@@ -7,6 +7,7 @@ mod parts;
 
 pub use laws::{
     below_stands_for_no_more, cleared_cells_stand_for_more, joined_stands_for_first,
-    joined_stands_for_second, starts_have_states, widened_stands_for_new, widened_stands_for_old,
+    joined_stands_for_second, resolved_bytes_are_owned, starts_have_states, widened_stands_for_new,
+    widened_stands_for_old,
 };
 pub use parts::{CellValue, Known, Link, RangeValue, Reason};

@@ -1,7 +1,10 @@
 //! What abstract states are made of.
 
+ghost use Rattle.std.specs.Prelude.{◌≡◌};
+
 use ia32_types::Width;
 use image_map::{Cell, RegionId};
+use std::alloc::AllocError;
 use strided::Si;
 use vset::ValueSet;
 
@@ -10,6 +13,17 @@ use vset::ValueSet;
 pub struct CellValue {
     pub cell: Cell,
     pub value: ValueSet,
+}
+
+impl Clone for CellValue {
+    ghost is_clone = { λ entry clone. clone ≡ entry };
+
+    fn clone(&self) -> Result<CellValue, AllocError> {
+        Ok(CellValue {
+            cell: self.cell,
+            value: self.value.clone()?,
+        })
+    }
 }
 
 /// An activation of `child`, the newest of its procedure unless it is aged, was called by one of `parent`, and
