@@ -1,0 +1,12 @@
+pub mod Flags
+pub mod Calls
+pub mod Effects
+pub mod Views
+pub mod Results
+pub mod Strings
+pub mod Rows
+pub mod Accesses
+pub mod Externs
+pub mod Places
+pub mod Successors
+pub mod Warnings
