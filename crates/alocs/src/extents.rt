@@ -48,7 +48,8 @@ pub(crate) fn extent_after(extents: &[Extent], offset: i64) -> Option<Extent>
     extent_at(extents, passed)
 }
 
-fn extent_of(segment: &Segment) -> Extent
+/// The offsets of `Global` that a segment has.
+pub fn extent_of(segment: &Segment) -> Extent
     requires { IsPlaced segment.now }
     ensures start { result.start ≡ pos segment.now.start }
     ensures end { result.end ≡ pos (end_of segment.now) }

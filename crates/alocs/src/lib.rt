@@ -6,6 +6,7 @@ mod extents;
 mod touching;
 
 pub use cells::{Cells, CutList};
+pub use extents::{Extent, extent_of};
 
 #[cfg(test)]
 mod tests;

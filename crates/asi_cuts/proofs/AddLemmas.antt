@@ -67,3 +67,7 @@ two_steps P Q R old mid new r few a b first second all =
 
 pub first_stops : (P Q : Cut → Type 0) (old new : List Cut) (e : Halt) → length old ≤ 1024 → Adds Q old new (Err e) → ((x : Cut) → Q x → P x) → Adds P old new (Err e)
 first_stops P Q old new e few a weaker = reach_stop P Q (λ x. ⊥) old old new e (reach_begin P (λ x. ⊥) old few (λ x h. absurd h)) a weaker
+
+pub second_stops : (P Q R : Cut → Type 0) (old mid new : List Cut) (e : Halt) → length old ≤ 1024 → Adds Q old mid (Ok tt) → Adds R mid new (Err e) → ((x : Cut) → Q x → P x) → ((x : Cut) → R x → P x) → Adds P old new (Err e)
+second_stops P Q R old mid new e few a b first second =
+    reach_stop P R Q old mid new e (reach_more P Q (λ x. ⊥) Q old old mid (reach_begin P (λ x. ⊥) old few (λ x h. absurd h)) a first (λ x h. inr (inl h))) b second

@@ -9,24 +9,12 @@ use Rattle.alocs.specs.declared.cells.CutList.{CutList}
 use Rattle.asi_cuts.specs.declared.facts.Constraint.{Constraint}
 use Rattle.asi_cuts.specs.declared.set.Cut.{Cut}
 use Rattle.asi_cuts.specs.declared.set.Halt.{Halt}
-use Rattle.asi_cuts.specs.Adding.{Adds, Grows, IsAt, IsCarriedBy, IsIn, IsMadeBy, IsOfAny}
+use Rattle.asi_cuts.specs.Adding.{Adds, Grows, IsCarriedBy, IsFollowing, IsForced, IsKept, IsMade}
 use Rattle.asi_cuts.specs.Cuts.{IsCut, keeps, makes, carries}
 use Rattle.std.proofs.lemmas.List.Elements.{Contains-append_cases}
 use Rattle.asi_cuts.specs.declared.set.Halt.TheVariants.{TooMany, Memory}
 use Rattle.asi_cuts.proofs.AddLemmas.{kept_there}
 use Rattle.asi_cuts.proofs.RowLemmas.{lt_or_ge}
-
-abbrev pub IsKept : List Segment → List CutList → Cut → Type 0
-IsKept segments kept = IsOfAny (λ (l : CutList). IsOfAny (λ offset. IsIn segments (IsAt l.region offset)) l.cuts) kept
-
-abbrev pub IsMade : List Segment → List Constraint → Cut → Type 0
-IsMade segments facts = IsOfAny (λ f. IsIn segments (IsMadeBy f)) facts
-
-abbrev pub IsFollowing : List Segment → List Constraint → Cut → Cut → Type 0
-IsFollowing segments facts q = IsOfAny (λ f. IsIn segments (IsCarriedBy q f)) facts
-
-abbrev pub IsForced : List Segment → List CutList → List Constraint → Cut → Type 0
-IsForced segments kept facts x = IsCut kept facts segments x.region x.offset
 
 pub forced_kept : (segments : List Segment) (kept : List CutList) (facts : List Constraint) (x : Cut) → IsKept segments kept x → IsForced segments kept facts x
 forced_kept segments kept facts x h =

@@ -2,7 +2,7 @@
 use Rattle.std.proofs.Common.{◌≡◌, ℕ, zero, suc, ◌+◌, ◌<◌, ◌≤◌, inl, inr, ⊎_elim, List, [], ◌∷◌, ◌++◌, length, take, get_or, refl, sym, subst, ap, ◌∙◌, arith}
 use Rattle.std.specs.Prelude.{Contains}
 use Rattle.std.specs.declared.result.Result.TheVariants.{Ok, Err}
-use Rattle.std.proofs.lemmas.List.{take_more}
+use Rattle.std.proofs.lemmas.List.{get_or_default, take_more}
 use Rattle.std.proofs.lemmas.List.Elements.{Contains-push_cases}
 use Rattle.alocs.proofs.MemberLaws.{contains-none}
 use Rattle.asi_cuts.specs.declared.set.Cut.{Cut}
@@ -13,7 +13,7 @@ use Rattle.asi_cuts.proofs.AddLemmas.{Reached, reach_begin, reach_more, reach_st
 contains_at : {Y : Type 0} (ys : List Y) (i : ℕ) (y : Y) → i < length ys → y ≡ get_or ys i y → Contains ys y
 contains_at ys i y lt is = (i, lt, sym is)
 
-take_all : {X : Type 0} (i : ℕ) (xs : List X) → length xs ≤ i → take i xs ≡ xs
+pub take_all : {X : Type 0} (i : ℕ) (xs : List X) → length xs ≤ i → take i xs ≡ xs
 take_all zero [] le = refl
 take_all zero (x ∷ xs) le = absurd (omega arith)
 take_all (suc i) [] le = refl
@@ -39,3 +39,8 @@ items_stop Q ys i y old now new e lt is r a = reach_stop (IsOfAny Q ys) (Q y) (I
 pub items_end : {Y : Type 0} (Q : Y → Cut → Type 0) (ys : List Y) (i : ℕ) (old now : List Cut) → length ys ≤ i → Reached (IsOfAny Q ys) (IsOfAny Q (take i ys)) old now → Adds (IsOfAny Q ys) old now (Ok tt)
 items_end {Y} Q ys i old now le r =
     reach_end (IsOfAny Q ys) (IsOfAny Q (take i ys)) old now r (λ x h. inl (h.0, subst (λ (l : List Y). Contains l h.0) (sym (take_all i ys le)) h.1, h.2))
+
+-- an item of a list that the code holds
+pub held_item : {Y : Type 0} (held ys : List Y) (i : ℕ) (d : Y) → held ≡ ys → i < length held → (i < length ys) × (get_or held i d ≡ get_or ys i (get_or held i d))
+held_item {Y} held ys i d same lt =
+    subst (λ (l : List Y). (i < length l) × (get_or held i d ≡ get_or l i (get_or held i d))) same (lt, get_or_default held i d (get_or held i d) lt)

@@ -1,9 +1,14 @@
 pub mod AddLemmas
 pub mod OrderLemmas
 pub mod RowLemmas
+pub mod MoveLemmas
 pub mod WindowLemmas
 pub mod ItemLemmas
 pub mod RegionLemmas
 pub mod ClosingLemmas
 pub mod ListingLemmas
+pub mod CountLemmas
+pub mod FactLemmas
+pub mod AnswerLemmas
 pub mod FollowingLemmas
+pub mod FitLemmas

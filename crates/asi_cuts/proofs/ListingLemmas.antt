@@ -1,8 +1,9 @@
 -- Cuts in their order, listed region by region.
-use Rattle.std.proofs.Common.{◌≡◌, ℕ, zero, suc, ◌+◌, ◌<◌, ◌≤◌, ◌↔◌, Bool, true, false, cond, ◌⊎◌, inl, inr, ⊎_elim, ℤ, List, [], ◌∷◌, ◌++◌, length, drop, get_or, refl, sym, subst, ap, ◌∙◌, append_assoc, append-nil, arith}
+use Rattle.std.proofs.Common.{◌≡◌, ℕ, zero, suc, ◌+◌, ◌-◌, ◌<◌, ◌≤◌, ◌↔◌, Bool, true, false, cond, ◌⊎◌, inl, inr, ⊎_elim, ℤ, List, [], ◌∷◌, ◌++◌, length, take, drop, get_or, refl, sym, subst, ap, ◌∙◌, append_assoc, append-nil, arith}
 use Rattle.std.specs.Prelude.{◌<ℤ◌, Contains}
 use Rattle.std.specs.Ordering.{int_cmp, is_lt}
 use Rattle.std.proofs.lemmas.Bool.{cond_both, true≢false}
+use Rattle.std.proofs.lemmas.List.{get_or_default}
 use Rattle.std.proofs.lemmas.List.Elements.{Contains-append_left, Contains-push, Contains-push_cases}
 use Rattle.image_map.specs.declared.region.RegionId.{RegionId}
 use Rattle.image_map.specs.Regions.{region_cmp, same_region, region_before}
@@ -16,6 +17,7 @@ use Rattle.asi_cuts.specs.declared.set.Cut.{Cut}
 use Rattle.asi_cuts.specs.Closed.{cut_cmp, cut_before, RiseBehind, AreDifferent, ListsRiseBehind, ListsRise}
 use Rattle.asi_cuts.specs.Cuts.{HasCut}
 use Rattle.asi_cuts.specs.Listing.{AreListsOf, run}
+use Rattle.asi_cuts.proofs.ItemLemmas.{take_all}
 
 cases : (b : Bool) → (b ≡ true) ⊎ (b ≡ false)
 cases true = inl refl
@@ -230,3 +232,9 @@ run_ends r cuts i x items lt at other inv =
 
 pub run_all : (r : RegionId) (cuts : List Cut) (i : ℕ) (items : List ℤ) → length cuts ≤ i → items ++ run r (drop i cuts) ≡ run r cuts → items ≡ run r cuts
 run_all r cuts i items le inv = sym (append-nil items) ∙ (ap (λ l. items ++ run r l) (sym (drop_all i cuts le)) ∙ inv)
+
+-- the same in what the code reads
+pub listed_next : (cuts : List Cut) (n : ℕ) (d : Cut) (offsets : List ℤ) (lists new : List CutList) → AreDifferent cuts → n < length cuts → offsets ≡ run (get_or cuts n d).region (take (length cuts - n) (drop n cuts))
+    → new ≡ lists ++ record { region = (get_or cuts n d).region; cuts = offsets } ∷ [] → Listed cuts n lists → Listed cuts (n + length offsets) new × (0 < length offsets)
+listed_next cuts n d offsets lists new different lt is made l =
+    listed_more cuts n (get_or cuts n d) offsets lists new different lt (get_or_default cuts n d (get_or cuts n d) lt) (is ∙ ap (run (get_or cuts n d).region) (take_all (length cuts - n) (drop n cuts) (let e = length_drop n cuts (omega arith) in omega arith))) made l

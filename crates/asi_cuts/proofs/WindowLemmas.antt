@@ -8,7 +8,7 @@ use Rattle.strided.proofs.MemberLemmas.{int_either, int_le_true, le_int_le}
 use Rattle.asi_cuts.specs.declared.rows.Row.{Row}
 use Rattle.asi_cuts.specs.declared.set.Cut.{Cut}
 use Rattle.asi_cuts.specs.declared.set.Halt.{Halt}
-use Rattle.asi_cuts.specs.Adding.{Adds, IsOf}
+use Rattle.asi_cuts.specs.Adding.{Adds, IsInWindow}
 use Rattle.asi_cuts.specs.Cuts.{element, spans}
 use Rattle.asi_cuts.proofs.RowLemmas.{lt_or_ge}
 use Rattle.asi_cuts.proofs.AddLemmas.{Reached, reach_begin, reach_more, reach_stop, reach_end}
@@ -16,10 +16,6 @@ use Rattle.asi_cuts.proofs.AddLemmas.{Reached, reach_begin, reach_more, reach_st
 -- the offset of a row with a number
 abbrev pub place : Row → ℕ → ℤ
 place row k = element row.start row.stride k +ℤ pos row.shift
-
--- a cut of the row from low up to high
-abbrev pub IsInWindow : Row → ℤ → ℤ → Cut → Type 0
-IsInWindow row low high x = IsOf row x × (spans low high x.offset ≡ true)
 
 -- one whose number is reached
 abbrev pub IsDone : Row → ℕ → ℕ → Cut → Type 0
@@ -82,3 +78,8 @@ window_end row low high below within n old now from to le r =
         let p : x.offset ≤ℤ high = int_le_true x.offset high (and_parts (int_le low x.offset) (int_le x.offset high) h).1 in
         let q = (to k).0 (lt, omega (arith, ints)) in
         omega arith
+
+-- what isn't below isn't
+pub window_above : (row : Row) (low : ℤ) (below n : ℕ) → ((k : ℕ) → (place row k <ℤ low) ↔ (k < below)) → below ≤ n → low ≤ℤ place row n
+window_above row low below n from le =
+    ⊎_elim (λ (q : low ≤ℤ place row n). q) (λ (q : place row n <ℤ low). let s = (from n).0 q in absurd (omega arith)) (int_either low (place row n))

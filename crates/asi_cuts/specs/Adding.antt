@@ -1,15 +1,16 @@
 -- How a set of cuts grows. The project's own.
-use Rattle.std.specs.Prelude.{ℕ, ◌<◌, ◌≤◌, ◌≡◌, ℤ, pos, ◌+ℤ◌, true, List, ◌++◌, length, Contains}
+use Rattle.std.specs.Prelude.{ℕ, ◌<◌, ◌≤◌, ◌≡◌, ◌⊎◌, ℤ, pos, ◌+ℤ◌, true, List, ◌++◌, length, Contains}
 use Rattle.std.specs.declared.result.Result.{Result}
 use Rattle.std.specs.declared.result.Result.TheVariants.{Ok, Err}
 use Rattle.image_map.specs.declared.image.Segment.{Segment}
 use Rattle.image_map.specs.declared.region.RegionId.{RegionId}
+use Rattle.alocs.specs.declared.cells.CutList.{CutList}
 use Rattle.asi_cuts.specs.declared.set.Cut.{Cut}
 use Rattle.asi_cuts.specs.declared.set.Halt.{Halt}
 use Rattle.asi_cuts.specs.declared.set.Halt.TheVariants.{TooMany, Memory}
 use Rattle.asi_cuts.specs.declared.facts.Constraint.{Constraint}
 use Rattle.asi_cuts.specs.declared.rows.Row.{Row}
-use Rattle.asi_cuts.specs.Cuts.{Carries, Makes, element, lies_in, spans}
+use Rattle.asi_cuts.specs.Cuts.{Carries, IsCut, Makes, element, lies_in, spans}
 use Rattle.image_map.specs.Whole.{end_of}
 
 -- more cuts stand behind the old ones, each as P says
@@ -46,6 +47,33 @@ IsMadeBy f x = Makes f x.region x.offset
 abbrev pub IsCarriedBy : Cut → Constraint → Cut → Type 0
 IsCarriedBy q f x = Carries f q.region q.offset x.region x.offset
 
+-- a cut of the row from low up to high
+abbrev pub IsInWindow : Row → ℤ → ℤ → Cut → Type 0
+IsInWindow row low high x = IsOf row x × (spans low high x.offset ≡ true)
+
 -- a cut of the row in a segment, or at an end of it
 abbrev pub IsInSegment : Row → Segment → Cut → Type 0
-IsInSegment row s x = IsOf row x × (spans (pos s.start) (pos (end_of s)) x.offset ≡ true)
+IsInSegment row s x = IsInWindow row (pos s.start) (pos (end_of s)) x
+
+-- a cut of one of two rows
+abbrev pub IsOfEither : List Segment → Row → Row → Cut → Type 0
+IsOfEither segments a b x = IsIn segments (IsOf a) x ⊎ IsIn segments (IsOf b) x
+
+-- a cut at an end of `len` bytes
+abbrev pub IsEnd : RegionId → ℤ → ℕ → Cut → Type 0
+IsEnd r start len x = (x.region ≡ r) × ((x.offset ≡ start) ⊎ (x.offset ≡ start +ℤ pos len))
+
+-- a kept cut
+abbrev pub IsKept : List Segment → List CutList → Cut → Type 0
+IsKept segments kept = IsOfAny (λ (l : CutList). IsOfAny (λ offset. IsIn segments (IsAt l.region offset)) l.cuts) kept
+
+-- a cut that one of the facts makes
+abbrev pub IsMade : List Segment → List Constraint → Cut → Type 0
+IsMade segments facts = IsOfAny (λ f. IsIn segments (IsMadeBy f)) facts
+
+-- a cut that one of the facts makes of a cut
+abbrev pub IsFollowing : List Segment → List Constraint → Cut → Cut → Type 0
+IsFollowing segments facts q = IsOfAny (λ f. IsIn segments (IsCarriedBy q f)) facts
+
+abbrev pub IsForced : List Segment → List CutList → List Constraint → Cut → Type 0
+IsForced segments kept facts x = IsCut kept facts segments x.region x.offset

@@ -5,6 +5,8 @@ ghost use Rattle.image_map.specs.declared.region.RegionId.{RegionId};
 ghost use Rattle.alocs.specs.declared.cells.CutList.{CutList};
 ghost use Rattle.asi_cuts.specs.declared.facts.Constraint.{Constraint};
 ghost use Rattle.asi_cuts.specs.declared.facts.Constraint.TheVariants.{Same};
+ghost use Rattle.alocs.specs.Cells.{AreCutLists};
+ghost use Rattle.asi_cuts.specs.Closed.{ListsRise};
 ghost use Rattle.asi_cuts.specs.Cuts.{Carries, IsCut, lies_in};
 ghost use Rattle.asi_cuts.specs.Following.{Follows, IsWithin};
 
@@ -28,4 +30,9 @@ pub fn carried_back()
 /// Of two ranges that are divided alike a cut is carried from the one to the other, from inside to inside: their ends aren't.
 pub fn carried_inside()
     ensures { (a : RegionId) (a_start : ℤ) (b : RegionId) (b_start : ℤ) (len : ℕ) (q : RegionId) (cut : ℤ) (r : RegionId) (offset : ℤ) → Carries (Same a a_start b b_start len) q cut r offset → ((q ≡ a) × IsWithin a_start len cut × (r ≡ b) × IsWithin b_start len offset) ⊎ ((q ≡ b) × IsWithin b_start len cut × (r ≡ a) × IsWithin a_start len offset) }
+{}
+
+/// Lists that rise, as those of `close` do, are lists that cells are made from.
+pub fn closed_lists_fit()
+    ensures { (lists : List CutList) → ListsRise lists → AreCutLists lists }
 {}

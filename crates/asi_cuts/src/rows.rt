@@ -2,8 +2,9 @@
 ghost use Rattle.std.specs.Prelude.{◌≡◌, ◌-◌, ◌↔◌, ◌<◌, ◌≤◌, ◌*◌, ◌+ℤ◌, ◌≤ℤ◌, ◌<ℤ◌, ◌⊎◌, ℕ, negsuc, pos};
 ghost use Rattle.asi_cuts.specs.declared.set.Cut.{Cut};
 ghost use Rattle.asi_cuts.specs.Adding.{IsOf};
-ghost use Rattle.asi_cuts.specs.Cuts.{IsRepeated, element};
+ghost use Rattle.asi_cuts.specs.Cuts.{IsMoved, IsRepeated, element};
 
+use crate::set::Cut;
 use image_map::RegionId;
 
 /// The offsets start + shift, start + shift + stride and so on, `count` of them.
@@ -29,8 +30,22 @@ pub(crate) fn one(region: RegionId, start: i32, shift: u32) -> Row
     }
 }
 
+/// The starts of elements.
+pub(crate) fn elements(region: RegionId, start: i32, stride: u32, count: u32) -> Row
+    ensures { result ≡ record { region = region; start = start; shift = 0; stride = stride; count = count } }
+{
+    Row {
+        region,
+        start,
+        shift: 0,
+        stride,
+        count,
+    }
+}
+
 /// The same offsets with a stride above 0: where it is 0, all are the first.
 pub(crate) fn spread(row: &Row) -> Row
+    ensures region { result.region ≡ row.now.region }
     ensures stride { 1 ≤ result.stride }
     ensures same { (x : Cut) → IsOf result x ↔ IsOf row.now x }
 {
@@ -69,8 +84,8 @@ fn steps(from: i64, to: i64, stride: u32) -> u64
     rise(from, to) / u64::from(stride) + 1
 }
 
-/// How far `to` lies above `from`, or 0 where it doesn't.
-pub(crate) fn distance(from: i32, to: i32) -> u32
+// How far `to` lies above `from`, or 0 where it doesn't.
+fn distance(from: i32, to: i32) -> u32
     ensures above { from ≤ℤ to → to ≡ from +ℤ pos result }
     ensures below { to <ℤ from → result ≡ 0 }
 {
@@ -112,6 +127,59 @@ pub(crate) fn repeated(starts: &Row, len: u32, offset: i32) -> Row
         return starts.repeats(0, 0);
     }
     starts.repeats(shift, reaching)
+}
+
+/// Two ranges of `len` bytes.
+#[derive(Clone, Copy)]
+pub(crate) struct Pair {
+    pub a: RegionId,
+    pub a_start: i32,
+    pub b: RegionId,
+    pub b_start: i32,
+    pub len: u32,
+}
+
+impl Pair {
+    /// The same ranges the other way round.
+    pub(crate) fn turned(&self) -> Pair
+        ensures { result ≡ record { a = self.now.b; a_start = self.now.b_start; b = self.now.a; b_start = self.now.a_start; len = self.now.len } }
+    {
+        Pair {
+            a: self.b,
+            a_start: self.b_start,
+            b: self.a,
+            b_start: self.a_start,
+            len: self.len,
+        }
+    }
+
+    // 1 where a cut lies so far inside the first range, else 0.
+    fn count(&self, region: RegionId, shift: u32) -> u32
+        ensures some { region ≡ self.now.a → 0 < shift → shift < self.now.len → result ≡ 1 }
+        ensures only { 0 < result → (region ≡ self.now.a) × (0 < shift) × (shift < self.now.len) × (result ≡ 1) }
+    {
+        if region != self.a {
+            return 0;
+        }
+        if shift == 0 {
+            return 0;
+        }
+        u32::from(shift < self.len)
+    }
+
+    /// Where a cut lies inside the first range: the offset as far inside the second. Else no offset.
+    pub(crate) fn moved(&self, cut: &Cut) -> Row
+        ensures { (x : Cut) → IsOf result x ↔ IsMoved self.now.a self.now.a_start self.now.b self.now.b_start self.now.len cut.now.region cut.now.offset x.region x.offset }
+    {
+        let shift = distance(self.a_start, cut.offset);
+        Row {
+            region: self.b,
+            start: self.b_start,
+            shift,
+            stride: 1,
+            count: self.count(cut.region, shift),
+        }
+    }
 }
 
 impl Row {
