@@ -13,6 +13,7 @@ use Rattle.image_map.specs.Regions.{same_region}
 use Rattle.image_map.proofs.OrderLaws.{same_region-equal}
 use Rattle.ia32_semantics.specs.CallModel.{AreActivations}
 use Rattle.ia32_semantics.specs.State.{State}
+use Rattle.alocs.proofs.CellLemmas.{int_lt_false}
 use Rattle.strided.specs.Interval.{Interval, IsMember}
 use Rattle.vset.specs.declared.part.Part.{Part}
 use Rattle.vset.specs.World.{ActivationAt, region_of, is_called}
@@ -22,7 +23,7 @@ use Rattle.abs_semantics.specs.StandsFor.{IsAboveAll, IsLinked}
 use Rattle.abs_semantics.specs.Resolve.{links_from, is_empty, is_below_callee, frame_verdict, verdict_in, verdict, parent_regions, links_of_region, Met, is_listed}
 use Rattle.abs_semantics.specs.Ownership.{IsKnown, IsOwnedAt}
 use Rattle.abs_semantics.proofs.StackLemmas.{base_bounds, chain_of, newer_below, raised, above_both}
-use Rattle.abs_semantics.proofs.VerdictLemmas.{int_lt_false, FrameFacts}
+use Rattle.abs_semantics.proofs.VerdictLemmas.{FrameFacts}
 use Rattle.abs_semantics.proofs.LevelLemmas.{IsAmong, among_filter, IsMet}
 
 -- -- Lists of activations

@@ -27,7 +27,7 @@ use Rattle.abs_semantics.proofs.BelowLemmas.{thing_has_region, same_fact_holds, 
 
 -- -- Cells
 
-held_has : (lane : ℕ) (s : State) (n : ℕ) (c : Cell) (v : Values) → HasValue lane (world_of s) n v → HasValue lane (world_of s) n (held_by c v)
+pub held_has : (lane : ℕ) (s : State) (n : ℕ) (c : Cell) (v : Values) → HasValue lane (world_of s) n v → HasValue lane (world_of s) n (held_by c v)
 held_has lane s n c v m = cond_both (may_hold c v) v Top (HasValue lane (world_of s) n) (λ _. m) (λ _. tt)
 
 not_both : (x y : Bool) → (x && not y) ≡ true → y ≡ true → ⊥

@@ -10,4 +10,12 @@ pub mod LevelLemmas
 pub mod ChainLemmas
 pub mod ClimbLemmas
 pub mod OwnerLemmas
+pub mod ThingLemmas
+pub mod EntryLemmas
+pub mod MeetLemmas
+pub mod StoreLemmas
+pub mod WriteLemmas
+pub mod ReadLemmas
+pub mod SlotLemmas
+pub mod RangeLemmas
 pub mod StartLemmas

@@ -103,7 +103,7 @@ module _ (image : Image) (s : State) (good : IsImage image) (laid : IsLaidOut im
   pub segment_low : (y : ℕ) → is_in_segment image y ≡ true → y < 2 ^ 31
   segment_low y e = found_holds y image.segments good.segments e
 
-  stack_bounds : (y : ℕ) → is_in_stack s.slot y ≡ true → (0xB0000000 ≤ y) × (y < 0xC0000000)
+  pub stack_bounds : (y : ℕ) → is_in_stack s.slot y ≡ true → (0xB0000000 ≤ y) × (y < 0xC0000000)
   stack_bounds y e =
       let both = and_parts (nat_le (s.slot - 2 ^ 20) y) (nat_lt y (s.slot + 2 ^ 16)) e in
       let low : s.slot - 2 ^ 20 ≤ y = leb-true (s.slot - 2 ^ 20) y both.0 in

@@ -1,10 +1,10 @@
 -- What holds of an interval that resolving an address doesn't refuse.
-use Rattle.std.proofs.Common.{◌≡◌, ℕ, ◌==◌, ◌⊎◌, inl, inr, Bool, true, false, cond, ◌&&◌, ◌||◌, not, refl, sym, ◌∙◌, subst, arith, ℤ, pos, negsuc}
-use Rattle.std.specs.Prelude.{◌≤ℤ◌, ◌<ℤ◌, int_le, int_lt, nat_lt}
-use Rattle.std.proofs.lemmas.Int.{ints}
+use Rattle.std.proofs.Common.{◌≡◌, ℕ, ◌==◌, ◌⊎◌, inl, inr, Bool, true, false, cond, ◌&&◌, ◌||◌, not, refl, sym, ◌∙◌, subst, pos, negsuc}
+use Rattle.std.specs.Prelude.{◌≤ℤ◌, int_le, int_lt, nat_lt}
 use Rattle.std.proofs.lemmas.Bool.{and_parts, or_cases, or_parts, false≢true, true≢false}
 use Rattle.image_map.specs.declared.region.RegionId.{RegionId}
 use Rattle.strided.specs.Interval.{Interval, greatest}
+use Rattle.alocs.proofs.CellLemmas.{int_lt_false}
 use Rattle.strided.proofs.MemberLemmas.{int_le_true}
 use Rattle.abs_semantics.specs.declared.parts.Reason.{Reason}
 use Rattle.abs_semantics.specs.declared.parts.Reason.TheVariants.{UnknownWrite, OutOfRegion, HeapOverrun}
@@ -15,12 +15,6 @@ abbrev pub Passes : Verdict → Type 0
 Passes (Refuses r) = ⊥
 Passes Stays = Unit {0}
 Passes (Follows as_well) = Unit {0}
-
-pub int_lt_true : (a b : ℤ) → int_lt a b ≡ true → a <ℤ b
-int_lt_true a b e = omega (arith, ints)
-
-pub int_lt_false : (a b : ℤ) → int_lt a b ≡ false → b ≤ℤ a
-int_lt_false a b e = omega (arith, ints)
 
 -- what isn't refused passed the test, and the rest decides
 pub not_refused : (t : Bool) (r : Reason) (v : Verdict) → Passes (refused_or t r v) → (t ≡ false) × Passes v

@@ -1,18 +1,26 @@
 -- What follows from the definitions of abstract states. The project's own.
-use Rattle.std.specs.Prelude.{◌≡◌, ℕ, Bool, true, if◌then◌else◌, []}
+use Rattle.std.specs.Prelude.{◌≡◌, ℕ, ◌+◌, ◌≤◌, Bool, true, false, if◌then◌else◌, List, [], Some, None}
+use Rattle.std.specs.List.{list_any}
+use Rattle.image_map.specs.declared.image.Image.{Image}
 use Rattle.image_map.specs.declared.region.Cell.{Cell}
-use Rattle.ia32_semantics.specs.State.{State}
-use Rattle.vset.specs.Values.{Values, Top}
+use Rattle.image_map.specs.declared.region.Settings.{Settings}
+use Rattle.ia32_semantics.specs.CallModel.{IsStart, AreActivations}
+use Rattle.ia32_semantics.specs.State.{State, Bytes, bytes_at, little_endian}
+use Rattle.alocs.specs.Cells.{Division}
+use Rattle.vset.specs.Members.{HasValue}
+use Rattle.vset.specs.Values.{Values, Top, CanonicalValues}
+use Rattle.abs_semantics.specs.declared.parts.RangeValue.{RangeValue}
 use Rattle.abs_semantics.specs.States.{AbsState, HasCanonical, value_at, rebuilt}
 use Rattle.abs_semantics.specs.Joins.{joined_state, widened_state}
 use Rattle.abs_semantics.specs.Below.{state_below}
-use Rattle.abs_semantics.specs.StandsFor.{StandsFor}
-use Rattle.abs_semantics.specs.Resolve.{resolve}
-use Rattle.abs_semantics.specs.Ownership.{IsKnown, IsRange, IsOwnedAmong}
-use Rattle.image_map.specs.declared.image.Image.{Image}
-use Rattle.image_map.specs.declared.region.Settings.{Settings}
-use Rattle.ia32_semantics.specs.CallModel.{IsStart}
 use Rattle.abs_semantics.specs.Start.{entry_state}
+use Rattle.abs_semantics.specs.StandsFor.{StandsFor, world_of}
+use Rattle.abs_semantics.specs.Resolve.{resolve}
+use Rattle.abs_semantics.specs.Touching.{touches_slot}
+use Rattle.abs_semantics.specs.Accesses.{read, write}
+use Rattle.abs_semantics.specs.Ranges.{read_range, write_range}
+use Rattle.abs_semantics.specs.Ownership.{IsKnown, IsRange, IsOwnedAmong}
+use Rattle.abs_semantics.specs.Stores.{with_memory, IsStored, HoldsNumber, HoldsRange}
 
 -- what is below stands for no more
 abbrev pub BelowStandsForNoMore : Type 0
@@ -60,3 +68,47 @@ abbrev pub ResolvedBytesAreOwned : Type 0
 ResolvedBytesAreOwned =
     (image : Image) (lane : ℕ) (a : AbsState) (p : ℕ) (s : State) (v : Values) (at count len : ℕ) → IsKnown image lane a p s → IsRange lane s v at count len
     → (resolve a p v len).reasons ≡ [] → IsOwnedAmong lane s at count (resolve a p v len).entries
+
+-- -- Reads and writes
+
+-- What is read at an address is a value that a read in the abstract state gives.
+abbrev pub ReadsAreMembers : Type 0
+ReadsAreMembers =
+    (image : Image) (lane : ℕ) (a : AbsState) (p : ℕ) (s : State) (d : Division) (v : Values) (at len : ℕ) (bytes : List ℕ)
+    → IsKnown image lane a p s → HasCanonical a → IsRange lane s v at len len → bytes_at s.memory at len ≡ Some bytes
+    → HasValue lane (world_of s) (little_endian bytes) (read a d p v len)
+
+-- the same of some of the bytes of a range
+abbrev pub RangeReadsAreMembers : Type 0
+RangeReadsAreMembers =
+    (image : Image) (lane : ℕ) (a : AbsState) (p : ℕ) (s : State) (d : Division) (v : Values) (at len distance count : ℕ) (bytes : List ℕ)
+    → IsKnown image lane a p s → IsRange lane s v at len len → distance + count ≤ len → bytes_at s.memory (at + distance) count ≡ Some bytes
+    → HasValue lane (world_of s) (little_endian bytes) (read_range a d p v len distance count)
+
+-- After a write, also where it has a reason, the written state stands for the state of the machine.
+abbrev pub WritesStandOn : Type 0
+WritesStandOn =
+    (image : Image) (lane : ℕ) (a : AbsState) (p : ℕ) (s : State) (d : Division) (v : Values) (at len : ℕ) (w : Values) (memory : Bytes)
+    → IsKnown image lane a p s → HasCanonical a → CanonicalValues v → CanonicalValues w → IsRange lane s v at len len
+    → IsStored image s at len memory → HoldsNumber lane s at len memory w → StandsFor lane (write a d image p v len w) (with_memory s memory)
+
+-- the same of a write to a range, of which the first bytes were written
+abbrev pub RangeWritesStandOn : Type 0
+RangeWritesStandOn =
+    (image : Image) (lane : ℕ) (a : AbsState) (p : ℕ) (s : State) (d : Division) (v : Values) (at count len : ℕ) (w : RangeValue) (memory : Bytes)
+    → IsKnown image lane a p s → HasCanonical a → CanonicalValues v → (1 ≤ count → IsRange lane s v at count len) → 1 ≤ len → count ≤ len
+    → IsStored image s at count memory → HoldsRange lane s at count len memory w → StandsFor lane (write_range a d image p v (Some len) w) (with_memory s memory)
+
+-- and where it isn't known how many bytes are written
+abbrev pub UnknownWritesStandOn : Type 0
+UnknownWritesStandOn =
+    (image : Image) (lane : ℕ) (a : AbsState) (p : ℕ) (s : State) (d : Division) (v : Values) (at count : ℕ) (w : RangeValue) (memory : Bytes)
+    → IsKnown image lane a p s → IsStored image s at count memory → StandsFor lane (write_range a d image p v None w) (with_memory s memory)
+
+-- A write to places none of which reaches into a return slot leaves the return slots of all activations.
+abbrev pub SlotsAreLeft : Type 0
+SlotsAreLeft =
+    (image : Image) (lane : ℕ) (a : AbsState) (p : ℕ) (s : State) (v : Values) (at count len : ℕ) (memory : Bytes)
+    → IsKnown image lane a p s → HasCanonical a → CanonicalValues v → IsRange lane s v at count len → (resolve a p v len).reasons ≡ []
+    → list_any (touches_slot len) (resolve a p v len).entries ≡ false → IsStored image s at count memory
+    → AreActivations image memory s.slot s.activations

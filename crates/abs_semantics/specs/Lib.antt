@@ -9,4 +9,5 @@ pub mod Operands
 pub mod Start
 pub mod StandsFor
 pub mod Ownership
+pub mod Stores
 pub mod Laws

@@ -16,7 +16,7 @@ use Rattle.abs_semantics.specs.declared.parts.CellValue.{CellValue}
 use Rattle.abs_semantics.specs.States.{AbsState, rebuilt}
 use Rattle.abs_semantics.specs.Joins.{has_length}
 use Rattle.abs_semantics.specs.Operands.{word_number}
-use Rattle.abs_semantics.specs.Touching.{cell_at}
+use Rattle.abs_semantics.specs.Touching.{cell_at, slot_of}
 use Rattle.abs_semantics.specs.Accesses.{without_value, listed}
 
 -- ESP points to the entry's return slot, which lies 12 above a multiple of 16, and DF is clear.
@@ -50,14 +50,10 @@ abbrev pub image_value : Image → Cell → Values
 image_value image c =
     if has_length 1 c || (has_length 2 c || has_length 4 c) then number_or_top (image_number image c) else Top
 
--- the return slot of a procedure's newest activation
-abbrev pub slot_cell : ℕ → Cell
-slot_cell procedure = record { region = Frame procedure; start = pos 0; end = pos 4 }
-
 -- the image's bytes, and HALT in the entry's return slot
 abbrev pub first_value : Image → ℕ → Cell → Values
 first_value image entry c =
-    if same_region c.region Global then image_value image c else (if same_cell (slot_cell entry) c then word_number HALT else Top)
+    if same_region c.region Global then image_value image c else (if same_cell (slot_of (Frame entry)) c then word_number HALT else Top)
 
 -- the cells of the image, and the entry's return slot where it is one
 abbrev pub first_cells : Division → ℕ → List Cell

@@ -110,3 +110,17 @@ is_within len x c = same_region x.region c.region && int_le x.si.lo c.start && i
 -- the ranges of two parts' one offsets share a byte
 abbrev pub overlap : ℕ → Part → Part → Bool
 overlap len x y = same_region x.region y.region && int_lt x.si.lo (y.si.lo +ℤ pos len) && int_lt y.si.lo (x.si.lo +ℤ pos len)
+
+-- -- Return slots
+
+abbrev pub is_frame : RegionId → Bool
+is_frame (Frame procedure) = true
+is_frame (OldFrame procedure) = true
+is_frame _ = false
+
+abbrev pub slot_of : RegionId → Cell
+slot_of r = record { region = r; start = pos 0; end = pos 4 }
+
+-- a range reaches into the return slot of an activation
+abbrev pub touches_slot : ℕ → Part → Bool
+touches_slot len x = is_frame x.region && is_some (meeting x.si len (slot_of x.region))

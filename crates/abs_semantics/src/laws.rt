@@ -1,6 +1,6 @@
 //! Laws of the definitions.
 
-ghost use Rattle.abs_semantics.specs.Laws.{BelowStandsForNoMore, ClearedCellsStandForMore, JoinedStandsForFirst, JoinedStandsForSecond, WidenedStandsForNew, WidenedStandsForOld, StartsHaveStates, ResolvedBytesAreOwned};
+ghost use Rattle.abs_semantics.specs.Laws.{BelowStandsForNoMore, ClearedCellsStandForMore, JoinedStandsForFirst, JoinedStandsForSecond, WidenedStandsForNew, WidenedStandsForOld, StartsHaveStates, ResolvedBytesAreOwned, ReadsAreMembers, RangeReadsAreMembers, WritesStandOn, RangeWritesStandOn, UnknownWritesStandOn, SlotsAreLeft};
 
 /// What lies below an abstract state stands for no more states.
 pub fn below_stands_for_no_more()
@@ -41,4 +41,35 @@ pub fn starts_have_states()
 /// address means are those of one place that is told.
 pub fn resolved_bytes_are_owned()
     ensures { ResolvedBytesAreOwned }
+{}
+
+/// What the machine reads at an address is a value that a read in the abstract state gives.
+pub fn reads_are_members()
+    ensures { ReadsAreMembers }
+{}
+
+/// What some bytes of a range hold is a value that a read of them within the range gives.
+pub fn range_reads_are_members()
+    ensures { RangeReadsAreMembers }
+{}
+
+/// After a write of the machine the written abstract state stands for the machine's state.
+pub fn writes_stand_on()
+    ensures { WritesStandOn }
+{}
+
+/// The same after a write to a range, of which the machine wrote the first bytes or all.
+pub fn range_writes_stand_on()
+    ensures { RangeWritesStandOn }
+{}
+
+/// The same after a write of which it isn't known how long it is.
+pub fn unknown_writes_stand_on()
+    ensures { UnknownWritesStandOn }
+{}
+
+/// A write that reaches into no return slot, by all that the abstract state tells, leaves each return slot as
+/// it was.
+pub fn slots_are_left()
+    ensures { SlotsAreLeft }
 {}

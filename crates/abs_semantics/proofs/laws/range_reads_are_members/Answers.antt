@@ -1,0 +1,5 @@
+use Rattle.abs_semantics.proofs.laws.range_reads_are_members.Goals as goal
+use Rattle.abs_semantics.proofs.ReadLemmas as lemma
+
+pub returns : goal.returns
+returns c = lemma.range_reads_are_members
