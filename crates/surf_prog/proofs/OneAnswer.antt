@@ -8,7 +8,7 @@ use Rattle.elf32.specs.Loading.{Loads}
 use Rattle.command_words.specs.declared.line.Entry.{Entry}
 use Rattle.surf_prog.specs.declared.words.Task.TheVariants as task
 use Rattle.surf_prog.specs.Straight.Code.{StopsAt, straight_graph}
-use Rattle.surf_prog.specs.Slicer.{IsSlice}
+use Rattle.slicer.specs.Slicer.{FlowEdge, IsSlice}
 use Rattle.ia32_semantics.specs.Fetch.{fetch_window, longest_instruction, IsFetched}
 use Rattle.surf_prog.specs.Straight.Bytes.{code_of}
 use Rattle.surf_prog.specs.Listing.{StandsAt, Follow, IsListing}
@@ -22,13 +22,13 @@ use Rattle.surf_prog.proofs.RequestLaws.{one_code, loads_passes, enters_once, re
 
 -- -- Slices
 
-one_slice : (g : List Instr) (at : ℕ) (xs ys : List ℕ) → IsSlice (straight_graph g) at false xs → IsSlice (straight_graph g) at false ys → xs ≡ ys
+one_slice : (g : List Instr) (at : ℕ) (xs ys : List ℕ) → IsSlice (FlowEdge (straight_graph g) false) (straight_graph g) at xs → IsSlice (FlowEdge (straight_graph g) false) (straight_graph g) at ys → xs ≡ ys
 one_slice g at xs ys p q = same_rising xs ys p.rising q.rising (λ a c. (q.listed a).1 ((p.listed a).0 c)) (λ a c. (p.listed a).1 ((q.listed a).0 c))
 
 one_slice_reply : (file : List ℕ) (entry : Option Entry) (at lane : ℕ) (one other : List ℕ) → IsSliceReply file entry at lane one → IsSliceReply file entry at lane other → one ≡ other
 one_slice_reply file entry at lane one other p q =
     let instrs = one_code file entry p.instrs q.instrs p.code q.code in
-    let slice = subst (λ g. IsSlice (straight_graph g) at false p.addresses) instrs p.slice in
+    let slice = subst (λ g. IsSlice (FlowEdge (straight_graph g) false) (straight_graph g) at p.addresses) instrs p.slice in
     p.text_is ∙ ap (λ l. slice_text at 0 lane l 0) (one_slice q.instrs at p.addresses q.addresses slice q.slice) ∙ sym q.text_is
 
 -- -- Lists, by whatever image of the file

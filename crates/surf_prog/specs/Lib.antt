@@ -1,7 +1,3 @@
-pub mod FlowGraph
-pub mod DepGraph
-pub mod ControlWalks
-pub mod Slicer
 pub mod Listing
 pub mod Words
 pub mod Entry

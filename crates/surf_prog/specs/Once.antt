@@ -13,8 +13,8 @@ use Rattle.elf32.specs.declared.error.ElfError.TheVariants as errors
 use Rattle.elf32.specs.Loading.{failure}
 use Rattle.surf_prog.specs.declared.words.Task.{Task}
 use Rattle.surf_prog.specs.declared.words.Task.TheVariants as task
-use Rattle.surf_prog.specs.FlowGraph.{IsAt}
-use Rattle.surf_prog.specs.Slicer.{IsSlice}
+use Rattle.flow_graph.specs.FlowGraph.{IsAt}
+use Rattle.slicer.specs.Slicer.{FlowEdge, IsSlice}
 use Rattle.surf_prog.specs.Straight.Code.{IsStraight, StopsAt, straight_graph}
 use Rattle.surf_prog.specs.Straight.Bytes.{code_of}
 use Rattle.surf_prog.specs.Listing.{IsTheListing}
@@ -48,7 +48,7 @@ pub record IsSliceReply (file : List ℕ) (entry : Option Entry) (at lane : ℕ)
   pub code : HasCode file entry instrs
   pub criterion : HasNode instrs at
   pub addresses : List ℕ
-  pub slice : IsSlice (straight_graph instrs) at false addresses
+  pub slice : IsSlice (FlowEdge (straight_graph instrs) false) (straight_graph instrs) at addresses
   pub text_is : text ≡ slice_text at 0 lane addresses 0
 
 -- a list begins at the address that was named, or where the program is entered

@@ -3,10 +3,12 @@ use Rattle.std.proofs.Common.{◌≡◌, ℕ, zero, suc, ◌+◌, ◌-◌, ◌<�
 use Rattle.std.specs.Prelude.{◌≢◌, ◌&&◌, Bool, true, false, slice_get, Contains, IsTrue}
 use Rattle.std.specs.List.{AllByRecursion}
 use Rattle.std.proofs.lemmas.Option.{slice_get-get_or, slice_get_within}
-use Rattle.surf_prog.specs.FlowGraph.{FlowNode, IsAt, IsStep, MayUse, MayDefine, MustDefine, Walk, esp_place}
-use Rattle.surf_prog.specs.DepGraph.{DataEdge}
-use Rattle.surf_prog.specs.ControlWalks.{Controls}
-use Rattle.surf_prog.specs.Slicer.{InSlice, criterion, source, IsSlice}
+use Rattle.flow_graph.specs.declared.graph.FlowNode.{FlowNode}
+use Rattle.flow_graph.specs.FlowGraph.{IsAt, IsStep, MayUse, MayDefine, MustDefine, Walk, esp_place}
+use Rattle.dep_graph.specs.DepGraph.{DataEdge}
+use Rattle.control_walks.specs.ControlWalks.{Controls}
+use Rattle.slicer.specs.Slicer.{FlowEdge, InSlice, IsSlice}
+use Rattle.flow_graph.specs.Marked.Marked.{seed, step}
 use Rattle.ia32_semantics.specs.State.{Location, is_location}
 use Rattle.ia32_semantics.specs.Machine.{Machine}
 use Rattle.ia32_semantics.specs.Runs.{OccurrenceOf, stands_at}
@@ -104,16 +106,16 @@ module _ (m : Machine) (g : List FlowNode) (skip_sp : Bool) (run : List (Occurre
         },
       )
 
-  one_back : (at j i : ℕ) → DirectDependence m skip_sp run j i → InSlice g at skip_sp (node j) → InSlice g at skip_sp (node i)
-  one_back at j i (inl d) s = source (inl (data_edge d.0 j i d.1)) s
-  one_back at j i (inr c) s = source (inr (walked.controls j i c)) s
+  one_back : (at j i : ℕ) → DirectDependence m skip_sp run j i → InSlice (FlowEdge g skip_sp) g at (node j) → InSlice (FlowEdge g skip_sp) g at (node i)
+  one_back at j i (inl d) s = step (inl (data_edge d.0 j i d.1)) s
+  one_back at j i (inr c) s = step (inr (walked.controls j i c)) s
 
-  all_back : (at n j i : ℕ) → Chain (DirectDependence m skip_sp run) n j i → InSlice g at skip_sp (node j) → InSlice g at skip_sp (node i)
+  all_back : (at n j i : ℕ) → Chain (DirectDependence m skip_sp run) n j i → InSlice (FlowEdge g skip_sp) g at (node j) → InSlice (FlowEdge g skip_sp) g at (node i)
   all_back at zero j i chain s = one_back at j i chain s
   all_back at (suc n) j i chain s = all_back at n chain.0 i chain.2 (one_back at j chain.0 chain.1 s)
 
   -- every dependence is listed
-  pub listed : (j i : ℕ) (later earlier : OccurrenceOf m) → slice_get run j ≡ Some later → slice_get run i ≡ Some earlier → Depends m skip_sp run j i → (addresses : List ℕ) → IsSlice g (stands_at later) skip_sp addresses → Contains addresses (stands_at earlier)
+  pub listed : (j i : ℕ) (later earlier : OccurrenceOf m) → slice_get run j ≡ Some later → slice_get run i ≡ Some earlier → Depends m skip_sp run j i → (addresses : List ℕ) → IsSlice (FlowEdge g skip_sp) g (stands_at later) addresses → Contains addresses (stands_at earlier)
   listed j i later earlier later_is earlier_is depends addresses slice =
-      let from = criterion (walked.stands j later later_is) in
+      let from = seed (walked.stands j later later_is) in
       (slice.listed (stands_at earlier)).1 (node i, walked.stands i earlier earlier_is, all_back (stands_at later) depends.0 j i depends.1 from)

@@ -8,9 +8,9 @@ use Rattle.std.proofs.lemmas.Bool.{false≢true}
 use Rattle.std.proofs.lemmas.List.{append-nil, append_assoc, reverse-append, reverse-reverse}
 use Rattle.std.proofs.lemmas.Nat.Bits.{bit_at-zero}
 use Rattle.ia32_types.specs.declared.Instr.{Instr}
-use Rattle.surf_prog.specs.FlowGraph.{IsStep, MayUse, MayDefine, MustDefine, Walk}
-use Rattle.surf_prog.specs.Slicer.{InSlice, IsSliced, IsSlice, Arrow}
-use Rattle.surf_prog.specs.Slicer.InSlice.{criterion, source}
+use Rattle.flow_graph.specs.FlowGraph.{IsStep, MayUse, MayDefine, MustDefine, Walk}
+use Rattle.slicer.specs.Slicer.{FlowEdge, InSlice, IsSliced, IsSlice, Arrow}
+use Rattle.flow_graph.specs.Marked.Marked.{seed, step as follows}
 use Rattle.surf_prog.specs.Straight.Code.{straight_graph, places}
 use Rattle.surf_prog.proofs.StraightCode.SetLemmas.{reg_reads_of, reg_writes_of, flag_reads_of, flag_writes_of, meets, meets_by, common_from_meets, register_low, needed_before, needed_kept, needed_read, needed_why, register_place, place_register, place_low, contains_cons, contains_here, contains_more, bit_one}
 use Rattle.surf_prog.proofs.StraightCode.GraphLemmas.{has_from, from_has, step_next, next_step}
@@ -110,14 +110,14 @@ module _ (is : List Instr) (at : ℕ) (quiet : (n : ℕ) (i : Instr) → slice_g
     walk : Walk (straight_graph is) m inner n
     kept : AllByRecursion (λ i. ¬ MustDefine (straight_graph is) place i) inner
     uses : MayUse (straight_graph is) place n
-    sliced : InSlice (straight_graph is) at false n
+    sliced : InSlice (FlowEdge (straight_graph is) false) (straight_graph is) at n
 
-  from_reaching : (m place : ℕ) → Reaching m place → MayDefine (straight_graph is) place m → InSlice (straight_graph is) at false m
-  from_reaching m place r defines = source (inl (place, (λ yes. absurd (false≢true yes)), record { defines = defines; uses = r.uses; inner = r.inner; walk = r.walk; kept = r.kept })) r.sliced
+  from_reaching : (m place : ℕ) → Reaching m place → MayDefine (straight_graph is) place m → InSlice (FlowEdge (straight_graph is) false) (straight_graph is) at m
+  from_reaching m place r defines = follows (inl (place, (λ yes. absurd (false≢true yes)), record { defines = defines; uses = r.uses; inner = r.inner; walk = r.walk; kept = r.kept })) r.sliced
 
-  wanted_sound : (k : ℕ) (i : Instr) (needed : ℕ) → slice_get is k ≡ Some i → ((p : ℕ) → p < 8 → bit_at needed p ≡ 1 → Reaching k p) → is_wanted at i needed ≡ true → InSlice (straight_graph is) at false k
+  wanted_sound : (k : ℕ) (i : Instr) (needed : ℕ) → slice_get is k ≡ Some i → ((p : ℕ) → p < 8 → bit_at needed p ≡ 1 → Reaching k p) → is_wanted at i needed ≡ true → InSlice (FlowEdge (straight_graph is) false) (straight_graph is) at k
   wanted_sound k i needed here reaching wanted = ⊎_elim
-      (λ same. criterion (has_from is k (λ node. node.at ≡ at) i here (eqb-true i.at at same)))
+      (λ same. seed (has_from is k (λ node. node.at ≡ at) i here (eqb-true i.at at same)))
       (λ met. let shared = common_from_meets (reg_writes_of i) needed (quiet k i here).writes met in
       let low = register_low (reg_writes_of i) shared.bit (quiet k i here).writes shared.in_a in
       from_reaching k shared.bit (reaching shared.bit low shared.in_b) (has_from is k (λ node. Contains node.may_def shared.bit) i here (register_place (reg_writes_of i) (flag_writes_of i) shared.bit low shared.in_a)))
@@ -165,15 +165,15 @@ module _ (is : List Instr) (at : ℕ) (quiet : (n : ℕ) (i : Instr) → slice_g
       one_more k m j (walked at rest) step here_j (needed_sound k j rest here_j (suffix_more k j rest suffix)) p low (is_wanted at j (walked at rest).needed) refl is_needed
 
   -- what is listed is in the slice
-  listed_one : (k : ℕ) (i : Instr) (after : Known) → slice_get is k ≡ Some i → ((p : ℕ) → p < 8 → bit_at after.needed p ≡ 1 → Reaching k p) → (a : ℕ) → (Contains after.listed a → IsSliced (straight_graph is) at false a)
-      → (wanted : Bool) → is_wanted at i after.needed ≡ wanted → Contains (one_back wanted i after).listed a → IsSliced (straight_graph is) at false a
+  listed_one : (k : ℕ) (i : Instr) (after : Known) → slice_get is k ≡ Some i → ((p : ℕ) → p < 8 → bit_at after.needed p ≡ 1 → Reaching k p) → (a : ℕ) → (Contains after.listed a → IsSliced (FlowEdge (straight_graph is) false) (straight_graph is) at a)
+      → (wanted : Bool) → is_wanted at i after.needed ≡ wanted → Contains (one_back wanted i after).listed a → IsSliced (FlowEdge (straight_graph is) false) (straight_graph is) at a
   listed_one k i after here reaching a later true wanted among = ⊎_elim
       (λ same. (k, has_from is k (λ node. node.at ≡ a) i here same, wanted_sound k i after.needed here reaching wanted))
       later
       (contains_cons i.at after.listed a among)
   listed_one k i after here reaching a later false unwanted among = later among
 
-  listed_sound : (k : ℕ) (rest : List Instr) → Suffix k rest → (a : ℕ) → Contains (walked at rest).listed a → IsSliced (straight_graph is) at false a
+  listed_sound : (k : ℕ) (rest : List Instr) → Suffix k rest → (a : ℕ) → Contains (walked at rest).listed a → IsSliced (FlowEdge (straight_graph is) false) (straight_graph is) at a
   listed_sound k [] suffix a among = absurd (omega (arith, among.1))
   listed_sound k (i ∷ rest) suffix a among =
       let here = suffix_here k i rest suffix in
@@ -232,7 +232,7 @@ module _ (is : List Instr) (at : ℕ) (quiet : (n : ℕ) (i : Instr) → slice_g
       let used = from_has is n (λ node. Contains node.may_use p) uses in
       place_low (reg_reads_of used.instr) p (subst (λ f. Contains (places (reg_reads_of used.instr) f) p) (quiet n used.instr used.here).flags used.fact)
 
-  marked_source : (m n : ℕ) → Arrow (straight_graph is) false m n → Marked n → Marked m
+  marked_source : (m n : ℕ) → Arrow (FlowEdge (straight_graph is) false) (straight_graph is) m n → Marked n → Marked m
   marked_source m n (inl (p, skip, edge)) marked =
       let low = low_place n p edge.uses in
       let is_needed = needed_complete m n edge.inner p low edge.walk edge.kept marked edge.uses in
@@ -242,20 +242,20 @@ module _ (is : List Instr) (at : ℕ) (quiet : (n : ℕ) (i : Instr) → slice_g
       record { instr = found.instr; here = found.here; wanted = or_right (found.instr.at == at) (meets (reg_writes_of found.instr) needed) (meets_by (reg_writes_of found.instr) needed p written is_needed) }
   marked_source m n (inr controls) marked = absurd (false≢true (from_has is m (λ node. IsTrue node.branch) controls.branches).fact)
 
-  marked_complete : (n : ℕ) → InSlice (straight_graph is) at false n → Marked n
-  marked_complete n (criterion stands) =
+  marked_complete : (n : ℕ) → InSlice (FlowEdge (straight_graph is) false) (straight_graph is) at n → Marked n
+  marked_complete n (seed stands) =
       let found = from_has is n (λ node. node.at ≡ at) stands in
       record { instr = found.instr; here = found.here; wanted = or_left (found.instr.at == at) (meets (reg_writes_of found.instr) (walked at (drop (suc n) is)).needed) (eq-eqb found.instr.at at found.fact) }
-  marked_complete m (source {n = n} arrow sliced) = marked_source m n arrow (marked_complete n sliced)
+  marked_complete m (follows {m = n} arrow sliced) = marked_source m n arrow (marked_complete n sliced)
 
-  sliced_listed : (a : ℕ) → IsSliced (straight_graph is) at false a → Contains (walked at is).listed a
+  sliced_listed : (a : ℕ) → IsSliced (FlowEdge (straight_graph is) false) (straight_graph is) at a → Contains (walked at is).listed a
   sliced_listed a (n, stands, sliced) =
       let marked = marked_complete n sliced in
       let found = from_has is n (λ node. node.at ≡ a) stands in
       let same : marked.instr.at ≡ a = ap (λ (i : Instr). i.at) (same_instr n marked.instr found.instr marked.here found.here) ∙ found.fact in
       subst (λ b. Contains (walked at is).listed b) same (wanted_listed at is n marked.instr marked.here marked.wanted)
 
-  pub walked_slice : IsRisingCode is → IsSlice (straight_graph is) at false (walked at is).listed
+  pub walked_slice : IsRisingCode is → IsSlice (FlowEdge (straight_graph is) false) (straight_graph is) at (walked at is).listed
   walked_slice rises = record {
     rising = walked_rises at is rises;
     listed = λ a. (listed_sound 0 is (λ n. let same : n ≡ 0 + n = omega arith in ap (slice_get is) same) a, sliced_listed a);

@@ -3,7 +3,8 @@ use Rattle.std.proofs.Common.{◌≡◌, ⊎_elim, ℕ, zero, suc, ◌+◌, fals
 use Rattle.std.specs.List.{Contains, slice_get}
 use Rattle.std.specs.Option.{IsSomeAnd, is_none, option_map}
 use Rattle.ia32_types.specs.declared.Instr.{Instr}
-use Rattle.surf_prog.specs.FlowGraph.{FlowNode, Has, IsStep}
+use Rattle.flow_graph.specs.declared.graph.FlowNode.{FlowNode}
+use Rattle.flow_graph.specs.FlowGraph.{Has, IsStep}
 use Rattle.surf_prog.specs.Straight.Code.{straight_node, nodes_from, straight_graph}
 use Rattle.surf_prog.proofs.StraightCode.SetLemmas.{contains_cons, contains_here}
 

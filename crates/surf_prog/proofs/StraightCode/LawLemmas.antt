@@ -6,8 +6,9 @@ use Rattle.std.proofs.lemmas.Bool.{false≢true}
 use borrow.Author.Tests.{ltb-true, eq-eqb}
 use Rattle.ia32_types.specs.declared.Instr.{Instr}
 use Rattle.ia32_types.specs.Places.{registers_read, registers_written, flags_read, flags_written}
-use Rattle.surf_prog.specs.FlowGraph.{FlowNode, Has, IsAt, IsStep, esp_place}
-use Rattle.surf_prog.specs.Slicer.{IsSlice}
+use Rattle.flow_graph.specs.declared.graph.FlowNode.{FlowNode}
+use Rattle.flow_graph.specs.FlowGraph.{Has, IsAt, IsStep, esp_place}
+use Rattle.slicer.specs.Slicer.{FlowEdge, IsSlice}
 use Rattle.surf_prog.specs.Straight.Code.{IsStraight, straight_node, nodes_from, straight_graph}
 use Rattle.image_map.specs.declared.image.Image.{Image}
 use Rattle.surf_prog.specs.Straight.Bytes.{HoldsCode}
@@ -188,4 +189,4 @@ slices_list_dependences image settings code instrs is_image straight code_is ski
     let all = run_executes image settings code instrs is_image straight code_is run is in
     listed (machine image settings) (straight_graph instrs) skip_sp run (λ k. k) (walked instrs image settings skip_sp run all)
     j i criterion source criterion_is source_is depends addresses
-    (subst (λ a. IsSlice (straight_graph instrs) a skip_sp addresses) (sym there) slice)
+    (subst (λ a. IsSlice (FlowEdge (straight_graph instrs) skip_sp) (straight_graph instrs) a addresses) (sym there) slice)

@@ -13,7 +13,7 @@ use Rattle.ia32_types.specs.Sets.{reg_bit}
 use Rattle.ia32_types.specs.Places.{reg_bits, flag_bits, op_flag_reads, registers_read, registers_written}
 use Rattle.ia32_types.specs.Spells.{Spells, Begins}
 use Rattle.ia32_types.proofs.SpellsLemmas.{one_spelling, not_empty, mov_number_spelled, mov_register_spelled, add_register_spelled, near_return_spelled, mov_register_spells, add_register_spells}
-use Rattle.surf_prog.specs.Slicer.{IsSlice}
+use Rattle.slicer.specs.Slicer.{FlowEdge, IsSlice}
 use Rattle.surf_prog.specs.Straight.Code.{Lists, IsStraight, AreStraight, straight_graph, is_move_or_add, is_return, is_register_form, names_esp, most_instructions}
 use Rattle.surf_prog.proofs.StraightCode.SetLemmas.{flag_reads_of}
 pub use Rattle.surf_prog.proofs.OneBegins.{one_begins}
@@ -178,5 +178,5 @@ rising_listed at code (j ∷ k ∷ is) p =
     (weaker j.at (at + j.len) (k ∷ is) (omega arith) (above_listed (at + j.len) (at + j.len) (drop j.len code) (k ∷ is) (omega arith) p.3), rising_listed (at + j.len) (drop j.len code) (k ∷ is) p.3)
 
 -- the walk back over straight code lists its slice
-pub straight_slice : (is : List Instr) (at : ℕ) → AreStraight is → IsSlice (straight_graph is) at false (walked at is).listed
+pub straight_slice : (is : List Instr) (at : ℕ) → AreStraight is → IsSlice (FlowEdge (straight_graph is) false) (straight_graph is) at (walked at is).listed
 straight_slice is at (entry, code, straight) = walked_slice is at (quiet_listed entry code is straight.lists) (rising_listed entry code is straight.lists)

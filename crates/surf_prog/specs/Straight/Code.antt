@@ -8,7 +8,7 @@ use Rattle.ia32_types.specs.declared.Operand.TheVariants as operand
 use Rattle.ia32_types.specs.declared.Instr.{Instr}
 use Rattle.ia32_types.specs.Spells.{Begins}
 use Rattle.ia32_types.specs.Places.{reg_bits, flag_bits, registers_read, registers_written, flags_read, flags_written}
-use Rattle.surf_prog.specs.FlowGraph.{FlowNode}
+use Rattle.flow_graph.specs.declared.graph.FlowNode.{FlowNode}
 
 -- a ModRM byte of which both operands are registers comes first
 abbrev pub is_register_form : List ℕ → Bool

@@ -12,9 +12,9 @@ use Rattle.ia32_semantics.specs.Dependence.{DataDependence, ListsDependences}
 use Rattle.ia32_semantics.specs.Step.{Act, Executes}
 use Rattle.ia32_semantics.specs.CallModel.{IsStart}
 use Rattle.ia32_semantics.specs.Ia32.{machine}
-use Rattle.surf_prog.specs.FlowGraph.{esp_place}
-use Rattle.surf_prog.specs.DepGraph.{DataEdge}
-use Rattle.surf_prog.specs.Slicer.{IsSlice}
+use Rattle.flow_graph.specs.FlowGraph.{esp_place}
+use Rattle.dep_graph.specs.DepGraph.{DataEdge}
+use Rattle.slicer.specs.Slicer.{FlowEdge, IsSlice}
 use Rattle.surf_prog.specs.Straight.Code.{IsStraight, straight_graph}
 use Rattle.surf_prog.specs.Straight.Bytes.{HoldsCode}
 
@@ -65,5 +65,5 @@ abbrev pub SlicesListDependences : Type 0
 SlicesListDependences =
     (image : Image) (settings : Settings) (code : List ℕ) (instrs : List Instr)
     → IsImage image → IsStraight settings.entry code instrs → HoldsCode image settings.entry code
-    → (skip_sp : Bool) (at : ℕ) (addresses : List ℕ) → IsSlice (straight_graph instrs) at skip_sp addresses
+    → (skip_sp : Bool) (at : ℕ) (addresses : List ℕ) → IsSlice (FlowEdge (straight_graph instrs) skip_sp) (straight_graph instrs) at addresses
     → ListsDependences (machine image settings) skip_sp at addresses
