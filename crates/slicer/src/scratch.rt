@@ -68,7 +68,8 @@ impl Scratch {
 
     /// The addresses of the slice last made.
     pub fn addresses(&self) -> &[u32]
-        ensures { result.now ≡ self.now.addresses }
+        ensures listed { result.now ≡ self.now.addresses }
+        ensures within { length self.now.addresses ≤ self.now.size }
     {
         &self.list[..self.listed]
     }

@@ -1,11 +1,11 @@
 -- Lemmas on straight code, as long as slices know no other.
-pub mod ArrowLemmas
 pub mod BackwardLemmas
 pub mod CompleteLemmas
 pub mod FetchLemmas
 pub mod GraphLemmas
 pub mod LawLemmas
 pub mod ListLemmas
+pub mod MapLemmas
 pub mod PlaceLemmas
 pub mod SetLemmas
 pub mod StartLemmas

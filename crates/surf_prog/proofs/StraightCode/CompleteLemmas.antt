@@ -1,8 +1,7 @@
 -- Straight code never faults: from each start some run executes all of it.
-use Rattle.std.proofs.Common.{◌≡◌, ℕ, suc, ◌+◌, ◌<◌, List, [], ◌∷◌, length, drop, Option, Some, None, refl, sym, ap, subst, ◌∙◌, inl, inr, cond}
-use Rattle.std.specs.Prelude.{Bool, true, false, ◌⊎◌, ◌&&◌, is_some}
+use Rattle.std.proofs.Common.{◌≡◌, ℕ, suc, ◌+◌, ◌<◌, List, [], ◌∷◌, length, drop, Option, Some, None, refl, sym, ap, subst, ◌∙◌, cond}
+use Rattle.std.specs.Prelude.{Bool, true, false, ◌&&◌, is_some}
 use Rattle.std.proofs.lemmas.Bool.{false≢true}
-use Rattle.ia32_types.specs.declared.Op.TheVariants as op
 use Rattle.ia32_types.specs.declared.Instr.{Instr}
 use Rattle.ia32_types.proofs.SpellsLemmas.{near_return}
 use Rattle.surf_prog.specs.Straight.Code.{Lists}
@@ -16,12 +15,12 @@ use Rattle.ia32_semantics.specs.Runs.{Goes, IsComplete}
 use Rattle.ia32_semantics.specs.Fetch.{IsFetched}
 use Rattle.ia32_semantics.specs.Outcome.{Outcome, leaves, made, going, can_move, is_in_stack}
 use Rattle.ia32_semantics.specs.Rows.{next_place}
-use Rattle.ia32_semantics.specs.Step.{Act, Executes, HALT, Step, is_single, completes}
+use Rattle.ia32_semantics.specs.Step.{Act, Executes, HALT, Step, is_single}
 use Rattle.ia32_semantics.specs.Ia32.{machine}
 use Rattle.surf_prog.specs.Straight.Runs.{StartsComplete}
 use Rattle.surf_prog.proofs.StraightCode.StepLemmas.{IsPlain, plain_effects, plain_outcome, plain_step, going_any, return_done, return_outcome, return_step, turned_memory, turned_fit}
 use Rattle.surf_prog.proofs.StraightCode.FetchLemmas.{is_spelled, is_fetched}
-use Rattle.surf_prog.proofs.StraightCode.WalkLemmas.{plain_is, operation_of, return_is, Ready, ready_after}
+use Rattle.surf_prog.proofs.StraightCode.WalkLemmas.{plain_is, operation_of, return_is, not_last, Ready, ready_after}
 
 -- memory holds bytes
 abbrev AreBytes : Bytes → Type 0
@@ -72,10 +71,6 @@ return_makes image s at i is single bytes halt = record {
 -- a run that begins with this step
 complete_later : (image : Image) (settings : Settings) (o : Occurrence Act) (run : List (Occurrence Act)) → IsComplete (machine image settings) run → IsComplete (machine image settings) (o ∷ run)
 complete_later image settings o run c = record { last = suc c.last; occurrence = c.occurrence; is_there = c.is_there; completes = c.completes }
-
-not_last : (o : Occurrence Act) (i : Instr) → o.act ≡ Executes i → (i.op ≡ op.Mov) ⊎ (i.op ≡ op.Add) → completes o ≡ false
-not_last o i act (inl is) = rw (act, is) refl
-not_last o i act (inr is) = rw (act, is) refl
 
 module _ (image : Image) (settings : Settings) (slot : ℕ) (is_image : IsImage image) where
   completing : (instrs : List Instr) (at : ℕ) (code : List ℕ) (s : State) → Lists at code instrs → Ready image slot at code s → AreBytes s.memory

@@ -169,7 +169,7 @@ weaker : (low high : ℕ) (is : List Instr) → low < high → AllByRecursion (�
 weaker low high [] lt all = tt
 weaker low high (j ∷ is) lt all = let here = all.0 in (omega arith, weaker low high is lt all.1)
 
-rising_listed : (at : ℕ) (code : List ℕ) (is : List Instr) → Lists at code is → IsRisingCode is
+pub rising_listed : (at : ℕ) (code : List ℕ) (is : List Instr) → Lists at code is → IsRisingCode is
 rising_listed at code [] p = absurd p
 rising_listed at code (j ∷ []) p = (tt, tt)
 rising_listed at code (j ∷ k ∷ is) p =

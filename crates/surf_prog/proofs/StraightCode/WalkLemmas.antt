@@ -19,7 +19,7 @@ use Rattle.ia32_semantics.specs.State.{State, AtByte, esp, word_at}
 use Rattle.ia32_semantics.specs.Machine.{Occurrence}
 use Rattle.ia32_semantics.specs.Runs.{stands_at, Goes}
 use Rattle.ia32_semantics.specs.Rows.{next_place}
-use Rattle.ia32_semantics.specs.Step.{Act, Executes, Answers, HALT, IsActAt, Step, Happens, is_single, is_branch, is_branch_operation, writes}
+use Rattle.ia32_semantics.specs.Step.{Act, Executes, Answers, HALT, IsActAt, Step, Happens, is_single, completes, is_branch, is_branch_operation, writes}
 use Rattle.ia32_semantics.specs.Laws.{is_repeated, may_keep_flags, is_shift, is_number}
 use Rattle.ia32_semantics.specs.Ia32.{machine}
 use Rattle.surf_prog.specs.Straight.Bytes.{HoldsCode}
@@ -98,6 +98,22 @@ AreExecuted image [] instrs = Unit {0}
 AreExecuted image (o ∷ run) [] = ⊥
 AreExecuted image (o ∷ run) (i ∷ instrs) = OfStraight image o i × AreExecuted image run instrs
 
+-- what an occurrence of straight code leaves that executes this instruction, with these after it
+pub record GoesOn (image : Image) (slot at : ℕ) (code : List ℕ) (i : Instr) (o : Occurrence Act) (later : List Instr) : Type 0 where
+  pub not_last : completes o ≡ false
+  pub same : o.after.activations ≡ o.before.activations
+  pub ready : Ready image slot (at + i.len) (drop i.len code) o.after
+  pub lists : Lists (at + i.len) (drop i.len code) later
+
+abbrev pub After : Image → ℕ → ℕ → List ℕ → Instr → Occurrence Act → List Instr → Type 0
+After image slot at code i o [] = completes o ≡ true
+After image slot at code i o (j ∷ rest) = GoesOn image slot at code i o (j ∷ rest)
+
+-- moves and additions don't complete a run
+pub not_last : (o : Occurrence Act) (i : Instr) → o.act ≡ Executes i → (i.op ≡ op.Mov) ⊎ (i.op ≡ op.Add) → completes o ≡ false
+not_last o i act (inl is) = rw (act, is) refl
+not_last o i act (inr is) = rw (act, is) refl
+
 -- no extern stands where code does
 low_extern : (count a : ℕ) → a < 0xF0000000 → extern_number count a ≡ None
 unfolding extern_number
@@ -150,46 +166,59 @@ module _ (image : Image) (settings : Settings) (slot : ℕ) (is_image : IsImage 
         code_is = code_after image at code ready.code_is i.len within;
       }
 
-  pub executed : (instrs : List Instr) (run : List (Occurrence Act)) (at : ℕ) (code : List ℕ) (s : State) → Lists at code instrs → Ready image slot at code s → Goes (machine image settings) s run → AreExecuted image run instrs
-  executed [] run at code s lists ready goes = absurd lists
-  executed (i ∷ []) [] at code s lists ready goes = tt
-  executed (i ∷ []) (o ∷ run) at code s lists ready goes =
+  -- An occurrence in such a state executes the first of the instructions; where it is the last the run is complete.
+  pub steps_on : (i : Instr) (rest : List Instr) (at : ℕ) (code : List ℕ) (s : State) (o : Occurrence Act) → Lists at code (i ∷ rest) → Ready image slot at code s → o.before ≡ s → Happens image settings o
+      → OfStraight image o i × After image slot at code i o rest
+  steps_on i [] at code s o lists ready before happens =
       let begins = is_spelled code at i lists.1 in
       let returns = return_is i.len code at i lists.0 begins.spelled in
       let is = ap (λ (v : Instr). v.op) returns in
-      let act = act_here at code s o i ready begins goes.0 goes.1 in
-      let single : is_single o.before.activations ≡ true = ap (λ (u : State). is_single u.activations) goes.0 ∙ ready.single in
+      let act = act_here at code s o i ready begins before happens in
+      let single : is_single o.before.activations ≡ true = ap (λ (u : State). is_single u.activations) before ∙ ready.single in
       let halt : word_at o.before.memory (o.before.registers esp) ≡ Some HALT =
-      ap (λ (u : State). word_at u.memory (u.registers esp)) goes.0 ∙ ap (λ a. word_at s.memory a) ready.top ∙ ready.halt in
-      let last = return_step image o at i goes.1.step act returns single halt in (
+      ap (λ (u : State). word_at u.memory (u.registers esp)) before ∙ ap (λ a. word_at s.memory a) ready.top ∙ ready.halt in (
         record {
-          runs = record { act = act; place = place_here at code s o i ready begins goes.0 };
-          step = goes.1.step;
+          runs = record { act = act; place = place_here at code s o i ready begins before };
+          step = happens.step;
           no_branch = ap is_branch act ∙ ap (λ p. is_branch_operation p i.dst) is;
           no_bytes = return_bytes image o at i act returns halt;
           once = ap is_repeated is;
           flags_made = ap (λ p. is_shift p && not (is_number i.src)) is;
         },
-        subst (λ r. AreExecuted image r []) (sym (goes.2 last)) tt,
+        return_step image o at i happens.step act returns single halt,
       )
-  executed (i ∷ j ∷ rest) [] at code s lists ready goes = tt
-  executed (i ∷ j ∷ rest) (o ∷ run) at code s lists ready goes =
+  steps_on i (j ∷ rest) at code s o lists ready before happens =
       let begins = is_spelled code at i lists.1 in
-      let act = act_here at code s o i ready begins goes.0 goes.1 in
+      let act = act_here at code s o i ready begins before happens in
       let plain = plain_is i.len code at i lists.0 begins.spelled in
       let operation = is_plain_op i (operation_of at i plain) in
-      let after = plain_step image o at i goes.1.step act plain lists.2 in
-      let kept : Keeps s o.after × (o.after.eip ≡ next_place i) = subst (λ u. Keeps u o.after × (o.after.eip ≡ next_place i)) goes.0 after in (
+      let after = plain_step image o at i happens.step act plain lists.2 in
+      let kept : Keeps s o.after × (o.after.eip ≡ next_place i) = subst (λ u. Keeps u o.after × (o.after.eip ≡ next_place i)) before after in (
         record {
-          runs = record { act = act; place = place_here at code s o i ready begins goes.0 };
-          step = goes.1.step;
+          runs = record { act = act; place = place_here at code s o i ready begins before };
+          step = happens.step;
           no_branch = ap is_branch act ∙ operation.0;
           no_bytes = plain_bytes o at i act plain;
           once = operation.1;
           flags_made = operation.2;
         },
-        executed (j ∷ rest) run (at + i.len) (drop i.len code) o.after lists.3 (ready_after at code s o.after i ready begins kept) goes.3,
+        record {
+          not_last = not_last o i act (operation_of at i plain);
+          same = after.0.activations;
+          ready = ready_after at code s o.after i ready begins kept;
+          lists = lists.3;
+        },
       )
+
+  pub executed : (instrs : List Instr) (run : List (Occurrence Act)) (at : ℕ) (code : List ℕ) (s : State) → Lists at code instrs → Ready image slot at code s → Goes (machine image settings) s run → AreExecuted image run instrs
+  executed [] run at code s lists ready goes = absurd lists
+  executed (i ∷ rest) [] at code s lists ready goes = tt
+  executed (i ∷ []) (o ∷ run) at code s lists ready goes =
+      let does = steps_on i [] at code s o lists ready goes.0 goes.1 in
+      (does.0, subst (λ r. AreExecuted image r []) (sym (goes.2 does.1)) tt)
+  executed (i ∷ j ∷ rest) (o ∷ run) at code s lists ready goes =
+      let does = steps_on i (j ∷ rest) at code s o lists ready goes.0 goes.1 in
+      (does.0, executed (j ∷ rest) run (at + i.len) (drop i.len code) o.after does.1.lists does.1.ready goes.3)
 
 -- the occurrence of a number executes the instruction of that number
 pub executed_at : (image : Image) (run : List (Occurrence Act)) (instrs : List Instr) (k : ℕ) (o : Occurrence Act) → AreExecuted image run instrs → slice_get run k ≡ Some o → (i : Instr) × (slice_get instrs k ≡ Some i) × OfStraight image o i

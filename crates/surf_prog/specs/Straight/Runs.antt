@@ -1,5 +1,5 @@
 -- What the slice of straight code is good for: it lists every instruction on which an occurrence of a run depends.
-use Rattle.std.specs.Prelude.{◌≡◌, ◌≢◌, ℕ, ◌<◌, ◌^◌, Bool, List, length, slice_get, Some, IsTrue}
+use Rattle.std.specs.Prelude.{◌≡◌, ℕ, ◌<◌, ◌^◌, Bool, List, length, slice_get, Some}
 use Rattle.ia32_types.specs.declared.Instr.{Instr}
 use Rattle.image_map.specs.declared.image.Image.{Image}
 use Rattle.image_map.specs.declared.region.Settings.{Settings}
@@ -12,8 +12,6 @@ use Rattle.ia32_semantics.specs.Dependence.{DataDependence, ListsDependences}
 use Rattle.ia32_semantics.specs.Step.{Act, Executes}
 use Rattle.ia32_semantics.specs.CallModel.{IsStart}
 use Rattle.ia32_semantics.specs.Ia32.{machine}
-use Rattle.flow_graph.specs.FlowGraph.{esp_place}
-use Rattle.dep_graph.specs.DepGraph.{DataEdge}
 use Rattle.slicer.specs.Slicer.{FlowEdge, IsSlice}
 use Rattle.surf_prog.specs.Straight.Code.{IsStraight, straight_graph}
 use Rattle.surf_prog.specs.Straight.Bytes.{HoldsCode}
@@ -52,13 +50,12 @@ StartsComplete =
     → (start : State) → IsStart image settings start
     → (run : List (Occurrence Act)) × Goes (machine image settings) start run × IsComplete (machine image settings) run × (length run ≡ length instrs)
 
--- Each location that an occurrence reads was last written by one from whose node an edge comes: occurrence k is at node k. With
--- skip_sp the edge isn't by ESP.
+-- Each location that an occurrence reads was last written by one from whose node an edge comes: occurrence k is at node k.
 abbrev pub ReadsHaveEdges : Type 0
 ReadsHaveEdges =
     OfStraightRuns (λ image settings instrs run.
     (skip_sp : Bool) (location : Location) (j i : ℕ) → DataDependence (machine image settings) skip_sp run location j i
-    → (cell : ℕ) × (IsTrue skip_sp → cell ≢ esp_place) × DataEdge (straight_graph instrs) cell i j)
+    → FlowEdge (straight_graph instrs) skip_sp i j)
 
 -- Wherever in a run of straight code an occurrence at the criterion depends on another, the other's address is in the slice.
 abbrev pub SlicesListDependences : Type 0
