@@ -3,7 +3,6 @@ pub mod SegmentLaws
 pub mod FetchLaws
 pub mod ListingLaws
 pub mod FileImage
-pub mod TextLaws
 pub mod RefusalLaws
 pub mod RequestLaws
 pub mod RisingLists

@@ -12,7 +12,7 @@ use Rattle.slicer.specs.Slicer.{FlowEdge, IsSlice}
 use Rattle.ia32_semantics.specs.Fetch.{fetch_window, longest_instruction, IsFetched}
 use Rattle.surf_prog.specs.Straight.Bytes.{code_of}
 use Rattle.surf_prog.specs.Listing.{StandsAt, Follow, IsListing}
-use Rattle.surf_prog.specs.Reply.{slice_text}
+use Rattle.requests.specs.Texts.{slice_text}
 use Rattle.surf_prog.specs.Once.{IsSliceReply, IsListReply, first_place}
 use Rattle.surf_prog.specs.OneAnswer.{RepliesAreOne, StopsAreOne, AbsencesAreOne, OutcomesExclude}
 use Rattle.surf_prog.proofs.StraightCode.StopLemmas.{one_stop}
@@ -28,8 +28,8 @@ one_slice g at xs ys p q = same_rising xs ys p.rising q.rising (λ a c. (q.liste
 one_slice_reply : (file : List ℕ) (entry : Option Entry) (at lane : ℕ) (one other : List ℕ) → IsSliceReply file entry at lane one → IsSliceReply file entry at lane other → one ≡ other
 one_slice_reply file entry at lane one other p q =
     let instrs = one_code file entry p.instrs q.instrs p.code q.code in
-    let slice = subst (λ g. IsSlice (FlowEdge (straight_graph g) false) (straight_graph g) at p.addresses) instrs p.slice in
-    p.text_is ∙ ap (λ l. slice_text at 0 lane l 0) (one_slice q.instrs at p.addresses q.addresses slice q.slice) ∙ sym q.text_is
+    let slice = subst (λ g. IsSlice (FlowEdge (straight_graph g) false) (straight_graph g) at p.told.addresses) instrs p.told.slice in
+    p.told.text_is ∙ ap (λ l. slice_text at 0 lane l 0) (one_slice q.instrs at p.told.addresses q.told.addresses slice q.told.slice) ∙ sym q.told.text_is
 
 -- -- Lists, by whatever image of the file
 

@@ -1,9 +1,8 @@
 -- Laws of one request: from how it ends to its clauses.
-use Rattle.std.proofs.Common.{◌≡◌, ◌≢◌, ◌⊎◌, inl, inr, ⊎_elim, ℕ, zero, suc, ◌<◌, ◌≤◌, Bool, true, false, ◌||◌, List, [], ◌∷◌, length, Option, Some, None, Result, Ok, Err, refl, sym, ◌∙◌, ap, subst, arith, eqb-true, eq-eqb}
-use Rattle.std.specs.Prelude.{◌==◌, ◌↔◌, Vec}
+use Rattle.std.proofs.Common.{◌≡◌, ◌≢◌, ◌⊎◌, inl, inr, ⊎_elim, ℕ, ◌<◌, ◌≤◌, Bool, true, false, List, length, Option, Some, None, Result, Ok, Err, refl, sym, ◌∙◌, ap, subst, arith}
+use Rattle.std.specs.Prelude.{◌↔◌, Vec}
 use Rattle.std.specs.declared.alloc.Global.{Global}
 use Rattle.std.specs.Option.{IfSome}
-use Rattle.std.specs.List.{list_any, slice_get}
 use Rattle.std.proofs.lemmas.Bool.{false≢true}
 use Rattle.ia32_types.specs.declared.Instr.{Instr}
 use Rattle.image_map.specs.declared.image.Image.{Image}
@@ -18,17 +17,24 @@ use Rattle.surf_prog.specs.declared.request.NoReply.{NoReply}
 use Rattle.surf_prog.specs.declared.request.NoReply.TheVariants as none
 use Rattle.surf_prog.specs.declared.refusal.Refusal.{Refusal}
 use Rattle.surf_prog.specs.declared.refusal.Refusal.TheVariants as refusal
-use Rattle.surf_prog.specs.Straight.Code.{IsStraight}
+use Rattle.flow_graph.specs.declared.graph.FlowNode.{FlowNode}
+use Rattle.flow_graph.specs.FlowGraph.{IsAt}
+use Rattle.dep_graph.specs.Edges.{HasEdges}
+use Rattle.slicer.specs.Slicer.{ListedEdge, IsSlice}
+use Rattle.slicer.proofs.SliceLaws.{slice-of_edges}
+use Rattle.requests.specs.Texts.{slice_text}
+use Rattle.surf_prog.specs.Straight.Code.{IsStraight, straight_graph, most_instructions}
 use Rattle.surf_prog.specs.Straight.Bytes.{code_of}
 use Rattle.surf_prog.specs.Listing.{IsTheListing}
-use Rattle.surf_prog.specs.Once.{image_limit, HasCode, HasNode, HasList, first_place, IsListReply, IsReply, HasReply, HasNoImage, HasNoEntry, IsUnsupported, IsAbsent, TellsLine, WasRead, ForAsked, AsksNothing, WritesReply, IsStatus, WritesNothing, ErrorLines, shelf_line, too_long_line}
+use Rattle.surf_prog.specs.Once.{image_limit, HasCode, HasNode, IsSliceText, HasList, first_place, IsListReply, IsReply, HasReply, HasNoImage, HasNoEntry, IsUnsupported, IsAbsent, TellsLine, WasRead, ForAsked, AsksNothing, WritesReply, IsStatus, WritesNothing, ErrorLines, shelf_line, too_long_line}
 use Rattle.command_words.specs.declared.line.Entry.{Entry}
 use Rattle.surf_prog.specs.declared.words.Request.{Request}
 use Rattle.surf_prog.specs.Entry.{Enters}
 use Rattle.surf_prog.specs.Words.{Asks, entry_of}
-use Rattle.surf_prog.specs.Answer.{Asked, OfFile, Replies, Answers, refusal_of, line_of, status_of}
+use Rattle.surf_prog.specs.Answer.{Asked, OfFile, Replies, RepliesFrom, SlicesStraight, Answers, refusal_of, line_of, status_of}
 use Rattle.surf_prog.proofs.StraightCode.ListLemmas.{one_list}
-use Rattle.surf_prog.proofs.StraightCode.GraphLemmas.{has_from, from_has}
+use Rattle.surf_prog.proofs.StraightCode.GraphLemmas.{has_from, from_has, node_count}
+use Rattle.surf_prog.proofs.StraightCode.MapLemmas.{is_among, index_in, stands_as, among_is}
 use Rattle.surf_prog.proofs.StraightCode.StopLemmas.{straight_or_stops}
 use Rattle.surf_prog.proofs.FileImage.{same_code, same_code_of, one_place, not_lacking}
 
@@ -95,7 +101,7 @@ reply_present file (task.Slice entry at lane) place has absent = absent.1.2 (sub
 reply_present file (task.List entry from steps) place has absent = list_present file entry from place has absent.0 absent.1.0 absent.1.2.loads absent.1.3
 
 has_reply : (file : List ℕ) (asked : Task) (text : List ℕ) → IsReply file asked text → HasReply file asked
-has_reply file (task.Slice entry at lane) text reply = (reply.instrs, reply.code, reply.criterion)
+has_reply file (task.Slice entry at lane) text reply = (reply.instrs, reply.code, reply.told.criterion)
 has_reply file (task.List entry from steps) text reply = reply.there
 
 -- where the first place of a list isn't code, that place was named
@@ -104,37 +110,23 @@ list_absent file entry image place None steps absent entered is none = absurd (f
 list_absent file entry image place (Some at) steps absent entered is none = (ap Some (sym is), (image, place, entered, none))
 
 -- an instruction stands at the address exactly where a node does
-record StandsAt (at : ℕ) (xs : List Instr) : Type 0 where
-  n : ℕ
-  instr : Instr
-  here : slice_get xs n ≡ Some instr
-  stands : instr.at ≡ at
+node_stands : (at : ℕ) (instrs : List Instr) → is_among instrs at ≡ true → HasNode instrs at
+node_stands at instrs among =
+    let found = stands_as instrs at among in
+    (index_in instrs at, has_from instrs (index_in instrs at) (λ node. node.at ≡ at) found.instr found.is_there found.stands)
 
-any_more : (at : ℕ) (x : Instr) (xs : List Instr) (b : Bool) → (x.at == at) ≡ b → (b || list_any (λ (i : Instr). i.at == at) xs) ≡ true → (list_any (λ (i : Instr). i.at == at) xs ≡ true → StandsAt at xs) → StandsAt at (x ∷ xs)
-any_more at x xs true is any more = record { n = 0; instr = x; here = refl; stands = eqb-true x.at at is }
-any_more at x xs false is any more = let later = more any in record { n = suc later.n; instr = later.instr; here = later.here; stands = later.stands }
+no_node_stands : (at : ℕ) (instrs : List Instr) → is_among instrs at ≡ false → ¬ HasNode instrs at
+no_node_stands at instrs none node =
+    let found = from_has instrs node.0 (λ node. node.at ≡ at) node.1 in
+    false≢true (sym none ∙ subst (λ a. is_among instrs a ≡ true) found.fact (among_is instrs node.0 found.instr found.here))
 
-any_at : (at : ℕ) (xs : List Instr) → list_any (λ (i : Instr). i.at == at) xs ≡ true → StandsAt at xs
-any_at at [] any = absurd (false≢true any)
-any_at at (x ∷ xs) any = any_more at x xs (x.at == at) refl any (any_at at xs)
+node_or_none : (at : ℕ) (instrs : List Instr) (among : Bool) → is_among instrs at ≡ among → ¬ ((n : ℕ) → ¬ IsAt (straight_graph instrs) at n) → HasNode instrs at
+node_or_none at instrs true is some = node_stands at instrs is
+node_or_none at instrs false is some = absurd (some (λ n stands. no_node_stands at instrs is (n, stands)))
 
-abbrev NoneAt : ℕ → List Instr → Type 0
-NoneAt at xs = (n : ℕ) (i : Instr) → slice_get xs n ≡ Some i → i.at ≢ at
-
-none_more : (at : ℕ) (x : Instr) (xs : List Instr) (b : Bool) → (x.at == at) ≡ b → (b || list_any (λ (i : Instr). i.at == at) xs) ≡ false → (list_any (λ (i : Instr). i.at == at) xs ≡ false → NoneAt at xs) → NoneAt at (x ∷ xs)
-none_more at x xs true is none more n i here stands = false≢true (sym none)
-none_more at x xs false is none more zero i here stands = let same : x ≡ i = cc in false≢true (sym is ∙ eq-eqb x.at at (ap (λ (j : Instr). j.at) same ∙ stands))
-none_more at x xs false is none more (suc n) i here stands = more none n i here stands
-
-none_at : (at : ℕ) (xs : List Instr) → list_any (λ (i : Instr). i.at == at) xs ≡ false → NoneAt at xs
-none_at at [] none = λ n i here stands. absurd (cc)
-none_at at (x ∷ xs) none = none_more at x xs (x.at == at) refl none (none_at at xs)
-
-pub node_stands : (at : ℕ) (instrs : List Instr) → list_any (λ (i : Instr). i.at == at) instrs ≡ true → HasNode instrs at
-node_stands at instrs any = let found = any_at at instrs any in (found.n, has_from instrs found.n (λ node. node.at ≡ at) found.instr found.here found.stands)
-
-pub no_node_stands : (at : ℕ) (instrs : List Instr) → list_any (λ (i : Instr). i.at == at) instrs ≡ false → ¬ HasNode instrs at
-no_node_stands at instrs none node = let found = from_has instrs node.0 (λ node. node.at ≡ at) node.1 in none_at at instrs none node.0 found.instr found.here found.fact
+-- where it isn't so that no node stands there, one does
+pub some_node : (at : ℕ) (instrs : List Instr) → ¬ ((n : ℕ) → ¬ IsAt (straight_graph instrs) at n) → HasNode instrs at
+some_node at instrs some = node_or_none at instrs (is_among instrs at) refl some
 
 -- what holds of the bytes that were read holds of the file, where it is told
 pub of_file : (o : Option (List ℕ)) (bytes : List ℕ) (P : List ℕ → Type 0) → Gives o bytes → length bytes ≤ image_limit → P bytes → OfFile o P
@@ -496,6 +488,43 @@ module _ (words : List (List ℕ)) (files : List ℕ → Option (List ℕ)) (bef
 -- the code that was found is that of a file with this image
 pub file_code : (file : List ℕ) (entry : Option Entry) (image : Image) (place : ℕ) (code : List ℕ) (instrs : List Instr) → Enters file entry image place → code ≡ code_of image place → IsStraight place code instrs → HasCode file entry instrs
 file_code file entry image place code instrs entered is straight = record { image = image; place = place; entered = entered; straight = subst (λ c. IsStraight place c instrs) is straight }
+
+-- a scratch that was made for the graph of the code has no more addresses than the code has instructions
+pub few_addresses : (instrs : List Instr) (flow nodes : List FlowNode) (addresses listed : List ℕ) (size made : ℕ) → flow ≡ straight_graph instrs → nodes ≡ flow → length instrs ≤ most_instructions
+    → listed ≡ addresses → length addresses ≤ size → size ≡ made → made ≡ length nodes → length listed ≤ 4096
+few_addresses instrs flow nodes addresses listed size made flow_is nodes_are few same within size_is made_is =
+    let count : length nodes ≡ length instrs = ap (λ (g : List FlowNode). length g) (nodes_are ∙ flow_is) ∙ node_count 0 instrs in
+    let long : length listed ≡ length addresses = ap (λ (l : List ℕ). length l) same in
+    omega arith
+
+-- The slice over the edges that were listed for the graph of the code is the code's slice.
+pub slice_told : (instrs : List Instr) (at lane : ℕ) (flow nodes : List FlowNode) (ordinary sp : List (ℕ × ℕ)) (addresses listed text : List ℕ)
+    → flow ≡ straight_graph instrs → nodes ≡ flow → HasEdges flow ordinary sp → IsSlice (ListedEdge ordinary sp false) nodes at addresses → ¬ ((n : ℕ) → ¬ IsAt nodes at n)
+    → listed ≡ addresses → text ≡ slice_text at 0 lane listed 0 → IsSliceText instrs at lane text
+slice_told instrs at lane flow nodes ordinary sp addresses listed text flow_is nodes_are has slice some same text_is =
+    let is : nodes ≡ straight_graph instrs = nodes_are ∙ flow_is in
+    let edges = subst (λ (g : List FlowNode). HasEdges g ordinary sp) flow_is has in
+    let there = subst (λ (g : List FlowNode). IsSlice (ListedEdge ordinary sp false) g at addresses) is slice in
+    record {
+      criterion = some_node at instrs (subst (λ (g : List FlowNode). ¬ ((n : ℕ) → ¬ IsAt g at n)) is some);
+      addresses = addresses;
+      slice = (slice-of_edges (straight_graph instrs) ordinary sp false at addresses edges).0 there;
+      text_is = text_is ∙ ap (λ l. slice_text at 0 lane l 0) same;
+    }
+
+-- where no node of the graph of the code stands, none of the code's does
+pub slice_absent : (instrs : List Instr) (at : ℕ) (flow nodes : List FlowNode) → flow ≡ straight_graph instrs → nodes ≡ flow → ((n : ℕ) → ¬ IsAt nodes at n) → ¬ HasNode instrs at
+slice_absent instrs at flow nodes flow_is nodes_are none node = none node.0 (subst (λ (g : List FlowNode). IsAt g at node.0) (sym (nodes_are ∙ flow_is)) node.1)
+
+-- what the code of an image answers, its file answers
+pub slice_replies : (image : Image) (place at lane : ℕ) (code : List ℕ) (instrs : List Instr) (result : Result (Vec ℕ Global) NoReply) → code ≡ code_of image place → IsStraight place code instrs → SlicesStraight instrs at lane result
+    → RepliesFrom image place (λ entry. task.Slice entry at lane) result
+slice_replies image place at lane code instrs (Ok text) is straight told file entry entered = record { instrs = instrs; code = file_code file entry image place code instrs entered is straight; told = told }
+slice_replies image place at lane code instrs (Err (none.Image cause)) is straight told file entry entered = absurd told
+slice_replies image place at lane code instrs (Err none.Entry) is straight told file entry entered = absurd told
+slice_replies image place at lane code instrs (Err (none.Unsupported stop)) is straight told file entry entered = absurd told
+slice_replies image place at lane code instrs (Err (none.Absent absent)) is straight told file entry entered = (told.0, (instrs, file_code file entry image place code instrs entered is straight, told.1))
+slice_replies image place at lane code instrs (Err none.Memory) is straight told file entry entered = tt
 
 -- the text of a list that begins in code
 pub file_list : (file : List ℕ) (entry : Option Entry) (image : Image) (place : ℕ) (from : Option ℕ) (steps first : ℕ) (text : List ℕ) → Enters file entry image place → first ≡ first_place place from → is_code image first ≡ true → IsTheListing image first steps text → IsListReply file entry from steps text

@@ -3,7 +3,9 @@ use Rattle.std.proofs.Common.{◌≡◌, ◌⊎◌, inl, inr, ⊎_elim, ℕ, zer
 use Rattle.std.specs.Prelude.{Contains, slice_index}
 use Rattle.std.specs.List.Sorted.{IsStrictlyIncreasing}
 use Rattle.std.proofs.lemmas.List.Kept.{AllPairs-from_increasing}
-use Rattle.surf_prog.proofs.StraightCode.SetLemmas.{contains_here}
+
+pub contains_here : (x : ℕ) (xs : List ℕ) → Contains (x ∷ xs) x
+contains_here x xs = (0, omega arith, refl)
 
 above : (x : ℕ) (xs : List ℕ) → IsStrictlyIncreasing (x ∷ xs) → (y : ℕ) → Contains xs y → x < y
 above x xs rising y c = subst (λ z. x < z) c.2 (AllPairs-from_increasing (x ∷ xs) rising 0 (suc c.0) y (omega arith) (omega (arith, c.1)))
@@ -16,7 +18,7 @@ rising_tail x xs rising k lt =
 none_contained : (x : ℕ) → ¬ Contains [] x
 none_contained x c = absurd (omega (arith, c.1))
 
-contained : (y : ℕ) (ys : List ℕ) (x : ℕ) → Contains (y ∷ ys) x → (y ≡ x) ⊎ Contains ys x
+pub contained : (y : ℕ) (ys : List ℕ) (x : ℕ) → Contains (y ∷ ys) x → (y ≡ x) ⊎ Contains ys x
 contained y ys x (zero, lt, is) = inl is
 contained y ys x (suc k, lt, is) = inr (k, omega arith, is)
 

@@ -1,7 +1,8 @@
 -- A reply tells every dependence of every run of its file's image.
 use Rattle.std.proofs.Common.{◌≡◌, ℕ, zero, suc, ◌<◌, Option, List, [], ◌∷◌, ◌++◌, length, get_or, sym, ap, subst, ◌∙◌, arith, append_assoc}
-use Rattle.std.specs.Prelude.{false, Contains}
+use Rattle.std.specs.Prelude.{false, Contains, codes}
 use Rattle.std.specs.List.{flat_map}
+use Rattle.std.specs.Fmt.{decimal}
 use Rattle.std.proofs.lemmas.Option.{IfSome_then}
 use Rattle.surf_base.specs.Sink.{Appends, WritesLines}
 use Rattle.surf_base.proofs.TextLines.{lines_append}
@@ -9,7 +10,7 @@ use Rattle.command_words.specs.declared.line.Entry.{Entry}
 use Rattle.surf_prog.specs.Entry.{Enters}
 use Rattle.surf_prog.specs.declared.words.Task.{Task}
 use Rattle.surf_prog.specs.declared.words.Task.TheVariants as task
-use Rattle.surf_prog.specs.Reply.{address_line, slice_head, slice_end, slice_text}
+use Rattle.requests.specs.Texts.{address_line, first_line, last_line, slice_text}
 use Rattle.surf_prog.specs.Straight.Code.{IsStraight}
 use Rattle.surf_prog.specs.Straight.Bytes.{code_of}
 use Rattle.surf_prog.specs.Once.{IsSliceReply, IsReply, WritesReply}
@@ -28,8 +29,9 @@ told f (y ∷ ys) x (suc k) h e rest =
 
 slice_tells : (at round lane : ℕ) (addresses : List ℕ) (warnings address : ℕ) → Contains addresses address → TellsAddress (slice_text at round lane addresses warnings) address
 slice_tells at round lane addresses warnings address c =
-    let r = told address_line addresses address c.0 c.1 c.2 (slice_end (length addresses) warnings) in
-    (slice_head at round lane ++ r.0, r.1, ap (λ l. slice_head at round lane ++ l) r.2 ∙ sym (append_assoc (slice_head at round lane) r.0 (address_line address ++ r.1)))
+    let head = first_line (codes "slice") (at ∷ []) round lane in
+    let r = told address_line addresses address c.0 c.1 c.2 (last_line (decimal (length addresses)) (codes " addresses ") warnings) in
+    (head ++ r.0, r.1, ap (λ l. head ++ l) r.2 ∙ sym (append_assoc head r.0 (address_line address ++ r.1)))
 
 pub slice_tells_dependences : (file : List ℕ) (entry : Option Entry) (at lane : ℕ) (text : List ℕ) → IsSliceReply file entry at lane text → TellsDependences file (task.Slice entry at lane) text
 slice_tells_dependences file entry at lane text reply image loads settings finds run is j i criterion source criterion_is there source_is depends =
@@ -40,9 +42,9 @@ slice_tells_dependences file entry at lane text reply image loads settings finds
     let here : Enters file entry image settings.entry = entered_too file entry own image reply.code.place settings.entry entered loads finds in
     let straight = subst (λ e. IsStraight e (code_of image e) reply.instrs) (one_place file entry own image reply.code.place settings.entry entered here) moved in
     let there_is =
-    slices_list_dependences image settings (code_of image settings.entry) reply.instrs (loaded_image file image loads) straight (entered_code file entry image settings.entry here) false at reply.addresses reply.slice
+    slices_list_dependences image settings (code_of image settings.entry) reply.instrs (loaded_image file image loads) straight (entered_code file entry image settings.entry here) false at reply.told.addresses reply.told.slice
     run is j i criterion source criterion_is there source_is depends in
-    subst (λ t. TellsAddress t (stands_at source)) (sym reply.text_is) (slice_tells at 0 lane reply.addresses 0 (stands_at source) there_is)
+    subst (λ t. TellsAddress t (stands_at source)) (sym reply.told.text_is) (slice_tells at 0 lane reply.told.addresses 0 (stands_at source) there_is)
 
 pub reply_tells_dependences : (file : List ℕ) (asked : Task) (text : List ℕ) → IsReply file asked text → TellsDependences file asked text
 reply_tells_dependences file (task.Slice entry at lane) text reply = slice_tells_dependences file entry at lane text reply

@@ -1,5 +1,4 @@
 -- Lemmas on straight code, as long as slices know no other.
-pub mod BackwardLemmas
 pub mod CompleteLemmas
 pub mod FetchLemmas
 pub mod GraphLemmas
@@ -7,7 +6,6 @@ pub mod LawLemmas
 pub mod ListLemmas
 pub mod MapLemmas
 pub mod PlaceLemmas
-pub mod SetLemmas
 pub mod StartLemmas
 pub mod StepLemmas
 pub mod StopLemmas

@@ -15,7 +15,8 @@ use Rattle.surf_prog.specs.Words.{Asks}
 use Rattle.command_words.specs.declared.line.Entry.{Entry}
 use Rattle.command_words.specs.declared.line.WordsError.{WordsError}
 use Rattle.command_words.specs.declared.line.WordsError.TheVariants as words
-use Rattle.surf_prog.specs.Once.{image_limit, IsReply, HasNoImage, HasNoEntry, IsUnsupported, IsAbsent, AsksNothing, words_line, shelf_line, too_long_line, image_line, entry_line, unsupported_line, absent_line, output_line, memory_line}
+use Rattle.ia32_types.specs.declared.Instr.{Instr}
+use Rattle.surf_prog.specs.Once.{image_limit, HasNode, IsSliceText, IsReply, HasNoImage, HasNoEntry, IsUnsupported, IsAbsent, AsksNothing, words_line, shelf_line, too_long_line, image_line, entry_line, unsupported_line, absent_line, output_line, memory_line}
 
 -- what a file answers to a task, or why it doesn't
 abbrev pub Replies : List ℕ → Task → Result (Vec ℕ Global) NoReply → Type 0
@@ -29,6 +30,13 @@ Replies file asked (Err none.Memory) = Unit {0}
 -- the same for each file that has this image and is entered at this place
 abbrev pub RepliesFrom : Image → ℕ → (Option Entry → Task) → Result (Vec ℕ Global) NoReply → Type 0
 RepliesFrom image place asked result = (file : List ℕ) (entry : Option Entry) → Enters file entry image place → Replies file (asked entry) result
+
+-- what straight code answers to a slice at this address
+abbrev pub SlicesStraight : List Instr → ℕ → ℕ → Result (Vec ℕ Global) NoReply → Type 0
+SlicesStraight instrs at lane (Ok text) = IsSliceText instrs at lane text.items
+SlicesStraight instrs at lane (Err (none.Absent absent)) = (absent ≡ at) × ¬ HasNode instrs at
+SlicesStraight instrs at lane (Err none.Memory) = Unit {0}
+SlicesStraight instrs at lane (Err other) = ⊥
 
 -- why a file has no image
 abbrev pub IsNoImage : List ℕ → NoReply → Type 0

@@ -1,7 +1,6 @@
 pub mod Listing
 pub mod Words
 pub mod Entry
-pub mod Reply
 pub mod Once
 pub mod Answer
 pub mod OneAnswer

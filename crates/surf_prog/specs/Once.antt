@@ -18,7 +18,7 @@ use Rattle.slicer.specs.Slicer.{FlowEdge, IsSlice}
 use Rattle.surf_prog.specs.Straight.Code.{IsStraight, StopsAt, straight_graph}
 use Rattle.surf_prog.specs.Straight.Bytes.{code_of}
 use Rattle.surf_prog.specs.Listing.{IsTheListing}
-use Rattle.surf_prog.specs.Reply.{slice_text}
+use Rattle.requests.specs.Texts.{slice_text}
 use Rattle.surf_prog.specs.Entry.{Enters, LacksEntry}
 use Rattle.surf_prog.specs.Words.{Asks, request_of, entry_of}
 use Rattle.command_words.specs.declared.line.Entry.{Entry}
@@ -40,16 +40,20 @@ pub record HasCode (file : List ℕ) (entry : Option Entry) (instrs : List Instr
 abbrev pub HasNode : List Instr → ℕ → Type 0
 HasNode instrs at = (n : ℕ) × IsAt (straight_graph instrs) at n
 
--- The text is the reply to a slice at this address in this file: there is a list of addresses that is the slice of the flow
--- graph of the file's code, and the text is that of this list, for round 0 and no warning. Straight code calls nothing, so its
--- slice is one for call strings of every length.
-pub record IsSliceReply (file : List ℕ) (entry : Option Entry) (at lane : ℕ) (text : List ℕ) : Type 0 where
-  pub instrs : List Instr
-  pub code : HasCode file entry instrs
+-- A node stands at the address, there is a list of addresses that is the slice at this address of the code's flow graph, and the
+-- text is that of this list, for round 0 and no warning.
+pub record IsSliceText (instrs : List Instr) (at lane : ℕ) (text : List ℕ) : Type 0 where
   pub criterion : HasNode instrs at
   pub addresses : List ℕ
   pub slice : IsSlice (FlowEdge (straight_graph instrs) false) (straight_graph instrs) at addresses
   pub text_is : text ≡ slice_text at 0 lane addresses 0
+
+-- The text is the reply to a slice at this address in this file. Straight code calls nothing, so its slice is one for call strings of
+-- every length.
+pub record IsSliceReply (file : List ℕ) (entry : Option Entry) (at lane : ℕ) (text : List ℕ) : Type 0 where
+  pub instrs : List Instr
+  pub code : HasCode file entry instrs
+  pub told : IsSliceText instrs at lane text
 
 -- a list begins at the address that was named, or where the program is entered
 abbrev pub first_place : ℕ → Option ℕ → ℕ

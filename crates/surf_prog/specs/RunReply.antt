@@ -7,7 +7,7 @@ use Rattle.surf_prog.specs.declared.words.Task.{Task}
 use Rattle.surf_prog.specs.declared.words.Task.TheVariants as task
 use Rattle.surf_prog.specs.Entry.{entry_place}
 use Rattle.surf_prog.specs.Once.{ForAsked}
-use Rattle.surf_prog.specs.Reply.{address_line}
+use Rattle.requests.specs.Texts.{address_line}
 use Rattle.image_map.specs.declared.region.Settings.{Settings}
 use Rattle.ia32_semantics.specs.Machine.{Occurrence}
 use Rattle.ia32_semantics.specs.Runs.{stands_at, IsRun}

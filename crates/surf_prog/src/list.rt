@@ -62,6 +62,3 @@ pub fn listing(alloc: Global, image: &Image, at: u32, steps: u32) -> Result<Vec<
     }
     ended(alloc, text, count)
 }
-
-#[cfg(test)]
-mod tests;

@@ -1,6 +1,5 @@
 // One request, from the words to the sinks.
-ghost use Rattle.std.specs.Prelude.{◌≡◌, ◌≤◌, ◌⊎◌, ◌↔◌, ℕ, length, map, IfOk, IfErr, IfSome, ◌==◌};
-ghost use Rattle.std.specs.List.{list_any};
+ghost use Rattle.std.specs.Prelude.{◌≡◌, ◌≤◌, ◌⊎◌, ◌↔◌, ℕ, length, map, IfOk, IfErr, IfSome};
 ghost use Rattle.std.specs.String.{string_bytes};
 ghost use Rattle.image_map.specs.Whole.{IsImage};
 ghost use Rattle.elf32.specs.declared.error.ElfError.{ElfError as Cause};
@@ -10,21 +9,23 @@ ghost use Rattle.surf_base.specs.Shelf.{IsLonger};
 ghost use Rattle.surf_base.specs.Sink.{Appends, WritesLines, StopsInLine};
 ghost use Rattle.surf_prog.specs.declared.words.Task.TheVariants as kinds;
 ghost use Rattle.surf_prog.specs.Once.{image_limit, first_place as place_of_first, ForAsked, AsksNothing, HasReply, HasNoImage, HasNoEntry, WritesReply, IsUnsupported, IsAbsent, WasRead, IsStatus, WritesNothing, TellsLine, shelf_line, too_long_line, ErrorLines};
+ghost use Rattle.surf_prog.specs.Straight.Code.{most_instructions};
 ghost use Rattle.surf_prog.specs.RunReply.{WritesDependences};
-ghost use Rattle.surf_prog.specs.Answer.{Replies, RepliesFrom, FindsEntry, IsNoImage, Answers};
+ghost use Rattle.surf_prog.specs.Answer.{Replies, RepliesFrom, SlicesStraight, FindsEntry, IsNoImage, Answers};
 
 use crate::entry::entry_place;
 use crate::list::listing;
 use crate::refusal::{Refusal, complain, status};
 use crate::straight::bytes::code_of;
 use crate::straight::code::{StraightCode, straight_code};
-use crate::straight::slice::backward;
+use crate::straight::graph::straight_graph;
 use crate::text::slice_text;
 use crate::words::{Request, Task, request_of};
 use command_words::{Entry, WordsError};
 use elf32::{ElfError, read_image};
 use ia32_types::Instr;
 use image_map::Image;
+use slicer::{RoundGraph, Scratch, backward};
 use std::alloc::{AllocError, Global};
 use surf_base::{Shelf, ShelfError, Sink, write_lines};
 
@@ -59,13 +60,6 @@ impl From<AllocError> for NoReply {
     }
 }
 
-// An instruction stands at the address.
-fn stands_at(instrs: &[Instr], at: u32) -> bool
-    ensures { result ≡ list_any (λ i. i.at == at) instrs.now }
-{
-    instrs.iter().any(|instr| instr.at == at)
-}
-
 // The place in code where an image is entered.
 fn found_entry(image: &Image, entry: &Option<Entry>) -> Result<u32, NoReply>
     ensures { FindsEntry image.now entry.now result }
@@ -81,6 +75,19 @@ fn found_entry(image: &Image, entry: &Option<Entry>) -> Result<u32, NoReply>
     }
 }
 
+// The reply to a slice of straight code.
+fn straight_slice(alloc: Global, instrs: &[Instr], at: u32, lane: u32) -> Result<Vec<u8>, NoReply>
+    requires { length instrs.now ≤ most_instructions }
+    ensures { SlicesStraight instrs.now at lane result }
+{
+    let graph = RoundGraph::new(alloc, straight_graph(alloc, instrs)?)?;
+    let mut scratch = Scratch::new(alloc, &graph)?;
+    match backward(&graph, at, false, &mut scratch) {
+        Err(_) => Err(NoReply::Absent(at)),
+        Ok(()) => Ok(slice_text(alloc, at, ROUND, lane, scratch.addresses(), 0)?),
+    }
+}
+
 // The reply to a slice in an image that is entered at this place.
 fn slice_reply(
     alloc: Global,
@@ -93,15 +100,10 @@ fn slice_reply(
     ensures { RepliesFrom image.now place (λ entry. kinds.Slice entry at lane) result }
 {
     let code = code_of(alloc, image, place)?;
-    let instrs = match straight_code(alloc, place, &code)? {
-        StraightCode::Stops(stop) => return Err(NoReply::Unsupported(stop)),
-        StraightCode::Straight(instrs) => instrs,
-    };
-    if !stands_at(&instrs, at) {
-        return Err(NoReply::Absent(at));
+    match straight_code(alloc, place, &code)? {
+        StraightCode::Stops(stop) => Err(NoReply::Unsupported(stop)),
+        StraightCode::Straight(instrs) => straight_slice(alloc, &instrs, at, lane),
     }
-    let addresses = backward(alloc, &instrs, at)?;
-    Ok(slice_text(alloc, at, ROUND, lane, &addresses, 0)?)
 }
 
 // Where a list begins.

@@ -1,12 +1,15 @@
 -- The flow graph of straight code, node by node, and its walks.
-use Rattle.std.proofs.Common.{◌≡◌, ⊎_elim, ℕ, zero, suc, ◌+◌, false, List, [], ◌∷◌, Option, Some, None, refl, sym, ◌∙◌, ap, subst, arith}
+use Rattle.std.proofs.Common.{◌≡◌, ⊎_elim, ℕ, zero, suc, ◌+◌, ◌<◌, ◌≤◌, true, false, List, [], ◌∷◌, ◌++◌, length, take, Option, Some, None, Result, Ok, Err, refl, sym, ◌∙◌, ap, subst, arith}
 use Rattle.std.specs.List.{Contains, slice_get}
+use Rattle.std.specs.Result.{IfOk}
 use Rattle.std.specs.Option.{IsSomeAnd, is_none, option_map}
+use Rattle.std.proofs.lemmas.Option.{none-some, same_Some, slice_get_past, slice_get-get_or}
+use Rattle.std.proofs.lemmas.List.{take_all}
 use Rattle.ia32_types.specs.declared.Instr.{Instr}
 use Rattle.flow_graph.specs.declared.graph.FlowNode.{FlowNode}
 use Rattle.flow_graph.specs.FlowGraph.{Has, IsStep}
 use Rattle.surf_prog.specs.Straight.Code.{straight_node, nodes_from, straight_graph}
-use Rattle.surf_prog.proofs.StraightCode.SetLemmas.{contains_cons, contains_here}
+use Rattle.surf_prog.proofs.RisingLists.{contains_here, contained}
 
 -- where control goes after node n, by the instruction that follows it
 abbrev pub next_of : ℕ → Option Instr → List ℕ
@@ -47,7 +50,7 @@ module _ (is : List Instr) where
 
   only_next : (n m : ℕ) (after : Option Instr) → Contains (next_of n after) m → m ≡ n + 1
   only_next n m None (k, within, is) = absurd (omega arith)
-  only_next n m (Some i) at = ⊎_elim (λ here. omega arith) (λ there. absurd (omega (arith, there.1))) (contains_cons (n + 1) [] m at)
+  only_next n m (Some i) at = ⊎_elim (λ here. omega arith) (λ there. absurd (omega (arith, there.1))) (contained (n + 1) [] m at)
 
   -- a step goes to the next node
   pub step_next : (n m : ℕ) → IsStep (straight_graph is) n m → m ≡ n + 1
@@ -55,3 +58,38 @@ module _ (is : List Instr) where
 
   pub next_step : (n : ℕ) (i j : Instr) → slice_get is n ≡ Some i → slice_get is (suc n) ≡ Some j → IsStep (straight_graph is) n (n + 1)
   next_step n i j at after = has_from n (λ node. Contains node.next (n + 1)) i at (subst (λ o. Contains (next_of n o) (n + 1)) (sym after) (contains_here (n + 1) []))
+
+-- -- The graph as it is built
+
+pub node_last : {E : Type 0} (is : List Instr) (n : ℕ) (i : Instr) (next : List ℕ) (r : Result FlowNode E) → slice_get is n ≡ Some i → n + 1 ≡ length is → next ≡ [] → IfOk r (λ node. node ≡ straight_node i next true)
+    → IfOk r (λ node. slice_get (straight_graph is) n ≡ Some node)
+node_last is n i next (Err e) here last none built = tt
+node_last is n i next (Ok node) here last none built =
+    node_is is 0 n n (omega arith) ∙ ap (option_map (node_by n (slice_get is (suc n)))) here
+    ∙ ap (λ o. Some (node_by n o i)) (slice_get_past is (suc n) (omega arith)) ∙ ap Some (sym (built ∙ ap (λ l. straight_node i l true) none))
+
+pub node_inner : {E : Type 0} (is : List Instr) (n : ℕ) (i : Instr) (next : List ℕ) (r : Result FlowNode E) → slice_get is n ≡ Some i → suc n < length is → next ≡ (n + 1) ∷ [] → IfOk r (λ node. node ≡ straight_node i next false)
+    → IfOk r (λ node. slice_get (straight_graph is) n ≡ Some node)
+node_inner is n i next (Err e) here more one built = tt
+node_inner is n i next (Ok node) here more one built =
+    node_is is 0 n n (omega arith) ∙ ap (option_map (node_by n (slice_get is (suc n)))) here
+    ∙ ap (λ o. Some (node_by n o i)) (slice_get-get_or is (suc n) i more) ∙ ap Some (sym (built ∙ ap (λ l. straight_node i l false) one))
+
+pub node_count : (k : ℕ) (is : List Instr) → length (nodes_from k is) ≡ length is
+node_count k [] = refl
+node_count k (i ∷ []) = refl
+node_count k (i ∷ j ∷ rest) = ap suc (node_count (k + 1) (j ∷ rest))
+
+take_more : (xs : List FlowNode) (n m : ℕ) (x : FlowNode) → m ≡ suc n → slice_get xs n ≡ Some x → take n xs ++ x ∷ [] ≡ take m xs
+take_more [] n m x e is = absurd (none-some x is)
+take_more (y ∷ xs) n zero x e is = absurd (omega arith)
+take_more (y ∷ xs) zero (suc m) x e is = let none : 0 ≡ m = omega arith in subst (λ k. (◌≡◌ {A = List FlowNode} (x ∷ []) (y ∷ take k xs))) none (ap (λ v. v ∷ []) (sym (same_Some y x is)))
+take_more (y ∷ xs) (suc n) (suc m) x e is = ap (λ l. y ∷ l) (take_more xs n m x (omega arith) is)
+
+-- one node more
+pub graph_more : (is : List Instr) (nodes : List FlowNode) (n m : ℕ) (node : FlowNode) (new : List FlowNode) → nodes ≡ take n (straight_graph is) → slice_get (straight_graph is) n ≡ Some node → new ≡ nodes ++ node ∷ [] → m ≡ suc n → new ≡ take m (straight_graph is)
+graph_more is nodes n m node new so_far here added e = added ∙ ap (λ l. l ++ node ∷ []) so_far ∙ take_more (straight_graph is) n m node e here
+
+-- all nodes
+pub graph_whole : (is : List Instr) (nodes : List FlowNode) (n : ℕ) → nodes ≡ take n (straight_graph is) → length is ≤ n → nodes ≡ straight_graph is
+graph_whole is nodes n so_far all = so_far ∙ take_all n (straight_graph is) (let count = node_count 0 is in omega arith)

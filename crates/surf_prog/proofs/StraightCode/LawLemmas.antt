@@ -29,9 +29,8 @@ use Rattle.slice_soundness.proofs.DataLemmas.{data_has_edges}
 use Rattle.surf_prog.specs.Straight.Code.{Lists, IsStraight, straight_graph}
 use Rattle.surf_prog.specs.Straight.Bytes.{HoldsCode}
 use Rattle.surf_prog.specs.Straight.Runs.{RunsExecuteInOrder, ReadsHaveEdges, SlicesListDependences}
-use Rattle.surf_prog.proofs.StraightCode.BackwardLemmas.{IsRisingCode}
 use Rattle.surf_prog.proofs.StraightCode.GraphLemmas.{node_by, has_from, from_has}
-use Rattle.surf_prog.proofs.StraightCode.ListLemmas.{begins_at, rising_listed}
+use Rattle.surf_prog.proofs.StraightCode.ListLemmas.{IsRisingCode, begins_at, rising_listed}
 use Rattle.surf_prog.proofs.StraightCode.MapLemmas.{is_among, index_in, stands_as, index_is, among_is, IsWalked, straight_map, Taken, taken, onward, last_is, row}
 use Rattle.surf_prog.proofs.StraightCode.PlaceLemmas.{both_of, register_place, place_register, flag_place, place_flag}
 use Rattle.surf_prog.proofs.StraightCode.WalkLemmas.{Ready, AreExecuted, executed, executed_at}

@@ -1,23 +1,13 @@
 -- Laws of straight code: its list of instructions is one, and what is known of each of them.
-use Rattle.std.proofs.Common.{◌≡◌, ◌⊎◌, inl, inr, ⊎_elim, ℕ, zero, suc, ◌+◌, ◌^◌, ◌<◌, ◌≤◌, Bool, true, false, ◌&&◌, ◌||◌, List, [], ◌∷◌, ◌++◌, length, take, drop, Some, refl, sym, ◌∙◌, ap, subst, arith, IsTrue, length-append, append_assoc, lit<, lit≤}
+use Rattle.std.proofs.Common.{◌≡◌, ℕ, ◌+◌, ◌<◌, ◌≤◌, false, List, [], ◌∷◌, ◌++◌, length, drop, sym, ◌∙◌, ap, subst, arith, IsTrue, length-append, append_assoc}
 use Rattle.std.proofs.lemmas.Bool.{false≢true}
-use Rattle.std.proofs.lemmas.List.{take_at}
-use Rattle.std.proofs.lemmas.Nat.{or_lt}
-use Rattle.std.specs.List.{slice_get, AllByRecursion}
-use borrow.Author.Tests.{leb-true, eqb-true}
+use Rattle.std.specs.List.{AllByRecursion}
+use borrow.Author.Tests.{eqb-true}
 use Rattle.ia32_types.specs.declared.Instr.{Instr}
-use Rattle.ia32_types.specs.declared.Op.TheVariants as op
-use Rattle.ia32_types.specs.declared.Reg.{Reg}
-use Rattle.ia32_types.specs.declared.Reg.TheVariants.{Eax, Ecx, Edx, Ebx, Esp, Ebp, Esi, Edi}
-use Rattle.ia32_types.specs.Sets.{reg_bit}
-use Rattle.ia32_types.specs.Places.{reg_bits, flag_bits, op_flag_reads, registers_read, registers_written}
 use Rattle.ia32_types.specs.Spells.{Spells, Begins}
-use Rattle.ia32_types.proofs.SpellsLemmas.{one_spelling, not_empty, mov_number_spelled, mov_register_spelled, add_register_spelled, near_return_spelled, mov_register_spells, add_register_spells}
-use Rattle.slicer.specs.Slicer.{FlowEdge, IsSlice}
-use Rattle.surf_prog.specs.Straight.Code.{Lists, IsStraight, AreStraight, straight_graph, is_move_or_add, is_return, is_register_form, names_esp, most_instructions}
-use Rattle.surf_prog.proofs.StraightCode.SetLemmas.{flag_reads_of}
+use Rattle.ia32_types.proofs.SpellsLemmas.{not_empty}
+use Rattle.surf_prog.specs.Straight.Code.{Lists, IsStraight, is_move_or_add, is_return, names_esp, most_instructions}
 pub use Rattle.surf_prog.proofs.OneBegins.{one_begins}
-use Rattle.surf_prog.proofs.StraightCode.BackwardLemmas.{IsQuiet, IsRisingCode, walked, walked_slice}
 
 -- where an instruction stands, and that it has a byte
 pub begins_at : (code : List ℕ) (at : ℕ) (i : Instr) → Begins code at i → i.at ≡ at
@@ -82,83 +72,10 @@ leads_end entry code so_far at rest i leads return begins few = record {
   short = let long = length-append so_far (i ∷ []) in omega arith;
 }
 
--- What the first bytes say of the operation.
-begun : (code : List ℕ) (at : ℕ) (i : Instr) (p : Begins code at i) → Spells (take (length p.used) code) at i
-begun code at i p = subst (λ bytes. Spells bytes at i) (sym (ap (λ l. take (length p.used) l) p.split ∙ take_at p.used p.rest (length p.used) refl)) p.spells
-
-not_nil : (b : ℕ) (bytes : List ℕ) → b ∷ bytes ≡ [] → ⊥
-not_nil b bytes e = cc
-
-register_move : (rest : List ℕ) (n at : ℕ) (i : Instr) → IsTrue (is_register_form rest) → Spells (0x89 ∷ take n rest) at i → i.op ≡ op.Mov
-register_move [] n at i form s = absurd (false≢true form)
-register_move (modrm ∷ rest) zero at i form s = absurd (not_nil _ _ (one_spelling (0x89 ∷ []) (0xC0 ∷ []) at i _ s (mov_register_spells 0xC0 at (lit≤ tt) (lit< tt))).0)
-register_move (modrm ∷ rest) (suc n) at i form s = ap (λ (j : Instr). j.op) (mov_register_spelled modrm (take n rest) at i (leb-true 0xC0 modrm form) s).1
-
-register_addition : (rest : List ℕ) (n at : ℕ) (i : Instr) → IsTrue (is_register_form rest) → Spells (0x01 ∷ take n rest) at i → i.op ≡ op.Add
-register_addition [] n at i form s = absurd (false≢true form)
-register_addition (modrm ∷ rest) zero at i form s = absurd (not_nil _ _ (one_spelling (0x01 ∷ []) (0xC0 ∷ []) at i _ s (add_register_spells 0xC0 at (lit≤ tt) (lit< tt))).0)
-register_addition (modrm ∷ rest) (suc n) at i form s = ap (λ (j : Instr). j.op) (add_register_spelled modrm (take n rest) at i (leb-true 0xC0 modrm form) s).1
-
-or_cases : (a b : Bool) → IsTrue (a || b) → IsTrue a ⊎ IsTrue b
-or_cases true b h = inl refl
-or_cases false b h = inr h
-
-and_both : (a b : Bool) → IsTrue (a && b) → IsTrue a × IsTrue b
-and_both true b h = (refl, h)
-and_both false b h = absurd (false≢true h)
-
-move_or_add : (len : ℕ) (code : List ℕ) (at : ℕ) (i : Instr) → IsTrue (is_move_or_add code) → Spells (take len code) at i → (i.op ≡ op.Mov) ⊎ (i.op ≡ op.Add)
-move_or_add zero code at i row s = absurd (not_empty at i s)
-move_or_add (suc n) [] at i row s = absurd (not_empty at i s)
-move_or_add (suc n) (opcode ∷ rest) at i row s = ⊎_elim
-    (λ number.
-    let range = and_both _ _ number in
-    let high = leb-true opcode 0xBF range.1 in
-    inl (ap (λ (j : Instr). j.op) (mov_number_spelled opcode (take n rest) at i (leb-true 0xB8 opcode range.0) (omega arith) s).2))
-    (λ registers.
-    let form = and_both _ _ registers in
-    ⊎_elim
-    (λ move. inl (register_move rest n at i form.1 (subst (λ b. Spells (b ∷ take n rest) at i) (eqb-true opcode 0x89 move) s)))
-    (λ addition. inr (register_addition rest n at i form.1 (subst (λ b. Spells (b ∷ take n rest) at i) (eqb-true opcode 0x01 addition) s)))
-    (or_cases _ _ form.0))
-    (or_cases _ _ row)
-
-return_op : (len : ℕ) (code : List ℕ) (at : ℕ) (i : Instr) → IsTrue (is_return code) → Spells (take len code) at i → i.op ≡ op.Ret
-return_op zero code at i row s = absurd (not_empty at i s)
-return_op (suc n) [] at i row s = absurd (not_empty at i s)
-return_op (suc n) (opcode ∷ rest) at i row s = ap (λ (j : Instr). j.op) (near_return_spelled (take n rest) at i (subst (λ b. Spells (b ∷ take n rest) at i) (eqb-true opcode 0xC3 row) s)).1
-
-reg_bit_below : (r : Reg) → reg_bit r < 2 ^ 8
-reg_bit_below Eax = lit< tt
-reg_bit_below Ecx = lit< tt
-reg_bit_below Edx = lit< tt
-reg_bit_below Ebx = lit< tt
-reg_bit_below Esp = lit< tt
-reg_bit_below Ebp = lit< tt
-reg_bit_below Esi = lit< tt
-reg_bit_below Edi = lit< tt
-
-bits_below : (rs : List Reg) → reg_bits rs < 2 ^ 8
-unfolding reg_bits
-bits_below [] = lit< tt
-bits_below (r ∷ rs) = or_lt 8 (reg_bit r) (reg_bits rs) (reg_bit_below r) (bits_below rs)
-
--- moves, additions and returns read no flag
-no_flags : (i : Instr) → ((i.op ≡ op.Mov) ⊎ (i.op ≡ op.Add)) ⊎ (i.op ≡ op.Ret) → flag_reads_of i ≡ 0
-unfolding op_flag_reads flag_bits
-no_flags i (inl (inl is)) = ap (λ o. flag_bits (op_flag_reads o)) is
-no_flags i (inl (inr is)) = ap (λ o. flag_bits (op_flag_reads o)) is
-no_flags i (inr is) = ap (λ o. flag_bits (op_flag_reads o)) is
-
-quiet_from : (i : Instr) → ((i.op ≡ op.Mov) ⊎ (i.op ≡ op.Add)) ⊎ (i.op ≡ op.Ret) → IsQuiet i
-quiet_from i is = record { reads = bits_below (registers_read i); writes = bits_below (registers_written i); flags = no_flags i is }
-
-quiet_listed : (at : ℕ) (code : List ℕ) (is : List Instr) → Lists at code is → (n : ℕ) (i : Instr) → slice_get is n ≡ Some i → IsQuiet i
-quiet_listed at code [] p n i here = absurd p
-quiet_listed at code (j ∷ []) p zero i here = let same : j ≡ i = cc in subst (λ (x : Instr). IsQuiet x) same (quiet_from j (inr (return_op (length p.1.used) code at j p.0 (begun code at j p.1))))
-quiet_listed at code (j ∷ []) p (suc n) i here = absurd (cc)
-quiet_listed at code (j ∷ k ∷ is) p zero i here = let same : j ≡ i = cc in subst (λ (x : Instr). IsQuiet x) same (quiet_from j (inl (move_or_add (length p.1.used) code at j p.0 (begun code at j p.1))))
-quiet_listed at code (j ∷ k ∷ is) p (suc n) i here = quiet_listed (at + j.len) (drop j.len code) (k ∷ is) p.3 n i here
+-- each instruction stands below those after it
+abbrev pub IsRisingCode : List Instr → Type 0
+IsRisingCode [] = Unit {0}
+IsRisingCode (i ∷ rest) = AllByRecursion (λ (j : Instr). i.at < j.at) rest × IsRisingCode rest
 
 above_listed : (at low : ℕ) (code : List ℕ) (is : List Instr) → low ≤ at → Lists at code is → AllByRecursion (λ (j : Instr). low ≤ j.at) is
 above_listed at low code [] le p = absurd p
@@ -176,7 +93,3 @@ rising_listed at code (j ∷ k ∷ is) p =
     let here = begins_at code at j p.1 in
     let some = begins_len code at j p.1 in
     (weaker j.at (at + j.len) (k ∷ is) (omega arith) (above_listed (at + j.len) (at + j.len) (drop j.len code) (k ∷ is) (omega arith) p.3), rising_listed (at + j.len) (drop j.len code) (k ∷ is) p.3)
-
--- the walk back over straight code lists its slice
-pub straight_slice : (is : List Instr) (at : ℕ) → AreStraight is → IsSlice (FlowEdge (straight_graph is) false) (straight_graph is) at (walked at is).listed
-straight_slice is at (entry, code, straight) = walked_slice is at (quiet_listed entry code is straight.lists) (rising_listed entry code is straight.lists)

@@ -19,9 +19,8 @@ use Rattle.ia32_semantics.specs.Ia32.{machine}
 use Rattle.slice_soundness.specs.Maps.{Map}
 use Rattle.slice_soundness.specs.Premises.{Row}
 use Rattle.surf_prog.specs.Straight.Code.{Lists, straight_graph}
-use Rattle.surf_prog.proofs.StraightCode.BackwardLemmas.{IsRisingCode}
 use Rattle.surf_prog.proofs.StraightCode.GraphLemmas.{next_step}
-use Rattle.surf_prog.proofs.StraightCode.ListLemmas.{begins_at}
+use Rattle.surf_prog.proofs.StraightCode.ListLemmas.{IsRisingCode, begins_at}
 use Rattle.surf_prog.proofs.StraightCode.WalkLemmas.{Ready, OfStraight, steps_on}
 
 -- -- The instruction at an address

@@ -1,13 +1,16 @@
 -- Code without a branch: what it is as bytes, the instructions that it lists, where other code stops being such, and the flow
 -- graph of the instructions. The project's own; the encodings are those of the Intel SDM, volume 2.
-use Rattle.std.specs.Prelude.{◌≡◌, ◌⊎◌, ◌==◌, ◌&&◌, ◌||◌, ℕ, zero, suc, ◌+◌, ◌≤◌, nat_le, Bool, true, false, List, [], ◌∷◌, ◌++◌, Option, Some, None, length, drop, map, filter, IsTrue}
-use Rattle.std.specs.Int.{bit_at}
+use Rattle.std.specs.Prelude.{◌≡◌, ◌⊎◌, ◌==◌, ◌&&◌, ◌||◌, ℕ, zero, suc, ◌+◌, ◌-◌, ◌≤◌, nat_le, nat_lt, if◌then◌else◌, Bool, true, false, List, [], ◌∷◌, ◌++◌, Option, Some, None, length, drop, IsTrue}
+use Rattle.ia32_types.specs.declared.Reg.{Reg}
 use Rattle.ia32_types.specs.declared.Reg.TheVariants as reg
+use Rattle.ia32_types.specs.declared.Flag.{Flag}
 use Rattle.ia32_types.specs.declared.Operand.{Operand}
 use Rattle.ia32_types.specs.declared.Operand.TheVariants as operand
 use Rattle.ia32_types.specs.declared.Instr.{Instr}
 use Rattle.ia32_types.specs.Spells.{Begins}
-use Rattle.ia32_types.specs.Places.{reg_bits, flag_bits, registers_read, registers_written, flags_read, flags_written}
+use Rattle.ia32_types.specs.Places.{registers_read, registers_written, flags_read, flags_written}
+use Rattle.ia32_types.specs.Numbers.{reg_of, flag_of}
+use Rattle.ia32_types.specs.Sets.{is_listed_reg, is_listed_flag}
 use Rattle.flow_graph.specs.declared.graph.FlowNode.{FlowNode}
 
 -- a ModRM byte of which both operands are registers comes first
@@ -91,20 +94,27 @@ StopsWithin (suc n) at code stop = (NoRowStands at code × (stop ≡ at)) ⊎ ((
 unfoldable pub StopsAt : ℕ → List ℕ → ℕ → Type 0
 StopsAt entry code stop = StopsWithin most_instructions entry code stop
 
--- the places of a set of registers and a set of flags, each given by its bits
-abbrev pub has_bit : ℕ → ℕ → Bool
-has_bit bits n = bit_at bits n == 1
+-- the numbers below a bound of which this holds, rising
+abbrev pub one_if : Bool → ℕ → List ℕ
+one_if holds n = if holds then n ∷ [] else []
 
-abbrev pub places : ℕ → ℕ → List ℕ
-places regs flags =
-    filter (has_bit regs) (0 ∷ 1 ∷ 2 ∷ 3 ∷ 4 ∷ 5 ∷ 6 ∷ 7 ∷ [])
-    ++ map (λ n. n + 8) (filter (has_bit flags) (0 ∷ 1 ∷ 2 ∷ 3 ∷ 4 ∷ 5 ∷ []))
+unfoldable pub numbers_below : (ℕ → Bool) → ℕ → List ℕ
+numbers_below test zero = []
+numbers_below test (suc n) = numbers_below test n ++ one_if (test n) n
+
+-- a place is that of one of these registers or flags
+abbrev pub is_place : List Reg → List Flag → ℕ → Bool
+is_place registers flags n = if nat_lt n 8 then is_listed_reg registers (reg_of n) else is_listed_flag flags (flag_of (n - 8))
+
+-- the places of some registers and flags
+abbrev pub places : List Reg → List Flag → List ℕ
+places registers flags = numbers_below (is_place registers flags) 14
 
 abbrev pub used_places : Instr → List ℕ
-used_places i = places (reg_bits (registers_read i)) (flag_bits (flags_read i))
+used_places i = places (registers_read i) (flags_read i)
 
 abbrev pub defined_places : Instr → List ℕ
-defined_places i = places (reg_bits (registers_written i)) (flag_bits (flags_written i))
+defined_places i = places (registers_written i) (flags_written i)
 
 -- The node of an instruction. It writes always what it may write. Memory is left out: the return alone reads it, and nothing
 -- writes it.

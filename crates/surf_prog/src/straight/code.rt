@@ -128,6 +128,3 @@ pub fn straight_code(alloc: Global, entry: u32, code: &[u8]) -> Result<StraightC
     }
     Ok(StraightCode::Stops(at))
 }
-
-#[cfg(test)]
-mod tests;
