@@ -1,0 +1,2 @@
+pub mod Chops
+pub mod Paths
