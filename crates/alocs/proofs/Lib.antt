@@ -5,4 +5,5 @@ pub mod FirstLemmas
 pub mod TouchLemmas
 pub mod OffsetLemmas
 pub mod ListLemmas
+pub mod HalfLemmas
 pub mod SegmentLemmas

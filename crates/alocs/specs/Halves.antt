@@ -1,10 +1,12 @@
 -- What a search that halves finds. The project's own.
-use Rattle.std.specs.Prelude.{ℕ, zero, suc, ℤ, ◌≤ℤ◌, ◌<ℤ◌, pos, int_lt, Bool, ◌⊎◌, Option, Some, None, List, slice_get, MatchOption}
+use Rattle.std.specs.Prelude.{ℕ, zero, suc, ◌+◌, ◌<◌, ◌≡◌, true, length, slice_index_or, ℤ, ◌≤ℤ◌, ◌<ℤ◌, pos, int_lt, Bool, ◌⊎◌, Option, Some, None, List, slice_get, MatchOption}
 use Rattle.std.specs.Int.{int_max, int_min}
 use Rattle.image_map.specs.declared.image.Segment.{Segment}
 use Rattle.image_map.specs.declared.region.Cell.{Cell}
+use Rattle.image_map.specs.Regions.{region_before}
 use Rattle.image_map.specs.Whole.{end_of}
 use Rattle.strided.specs.Interval.{Interval, IsMember}
+use Rattle.alocs.specs.declared.cells.CutList.{CutList}
 use Rattle.alocs.specs.declared.extents.Extent.{Extent}
 
 -- an extent shares no offset with a segment
@@ -35,3 +37,7 @@ abbrev pub IsFirstFrom : Interval → ℤ → Option ℤ → Type 0
 IsFirstFrom offsets bound first =
     MatchOption first ((v : ℤ) → IsMember v offsets → v <ℤ bound)
     (λ m. IsMember m offsets × (bound ≤ℤ m) × ((v : ℤ) → IsMember v offsets → bound ≤ℤ v → m ≤ℤ v))
+
+-- the lists stand by their regions
+abbrev pub AreByRegion : List CutList → Type 0
+AreByRegion lists = (k : ℕ) (d : CutList) → k + 1 < length lists → region_before (slice_index_or lists k d).region (slice_index_or lists (k + 1) d).region ≡ true

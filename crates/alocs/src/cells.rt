@@ -1,10 +1,11 @@
 //! Cut lists, and the cells that they make.
-ghost use Rattle.std.specs.Prelude.{◌≡◌, ◌≤◌, ◌≤ℤ◌, Contains, IfOk, Some, find, is_some, negsuc, pos, true};
+ghost use Rattle.std.specs.Prelude.{◌≡◌, ◌≤◌, ◌≤ℤ◌, Contains, IfOk, IsTrue, Some, find, is_some, negsuc, pos, slice_get, true};
 ghost use Rattle.std.specs.Option.{option_copied};
 ghost use Rattle.image_map.specs.declared.region.Cell.{Cell};
-ghost use Rattle.image_map.specs.Regions.{same_region};
+ghost use Rattle.image_map.specs.Regions.{region_before, same_region};
 ghost use Rattle.image_map.specs.Whole.{IsImage};
 ghost use Rattle.alocs.specs.Extents.{AreOfImage, RiseFrom, extents as extents_spec, has_offset};
+ghost use Rattle.alocs.specs.Halves.{AreByRegion};
 ghost use Rattle.alocs.specs.Cells.{AreCutLists, AreRising, AreTouched, cells_of, cuts_of, holds, word_cuts, words as words_spec};
 
 use crate::extents::{Extent, home, image_extents, only};
@@ -26,6 +27,7 @@ pub struct CutList {
 #[derive(Debug, Drop)]
 pub struct Cells {
     lists: Vec<CutList>,
+    by_region: bool,
     image: Vec<Extent>,
     frame: Vec<Extent>,
     heap: Vec<Extent>,
@@ -35,7 +37,8 @@ pub struct Cells {
 }
 
 impl Model for Cells {
-    ghost use Rattle.std.specs.Prelude.{◌≡◌, [], ◌∷◌, negsuc, pos};
+    ghost use Rattle.std.specs.Prelude.{◌≡◌, [], ◌∷◌, IsTrue, negsuc, pos};
+    ghost use Rattle.alocs.specs.Halves.{AreByRegion};
     ghost use Rattle.alocs.specs.Extents.{RiseFrom, frame_extent, heap_extent};
     ghost use Rattle.alocs.specs.Cells.{AreCutLists, Division, words};
 
@@ -45,7 +48,8 @@ impl Model for Cells {
 
     ghost invariant = { λ c. AreCutLists c.lists.items × RiseFrom (pos 0) c.image.items
         × (c.frame.items ≡ frame_extent ∷ []) × (c.heap.items ≡ heap_extent ∷ [])
-        × (c.frame_words.items ≡ words 273 (negsuc 1023)) × (c.heap_words.items ≡ words 65 (pos 0)) × (c.no_words.items ≡ []) };
+        × (c.frame_words.items ≡ words 273 (negsuc 1023)) × (c.heap_words.items ≡ words 65 (pos 0)) × (c.no_words.items ≡ [])
+        × (IsTrue c.by_region → AreByRegion c.lists.items) };
 }
 
 impl Clone for CutList {
@@ -74,10 +78,54 @@ fn words(alloc: Global, count: u32, from: i32) -> Result<Vec<i32>, AllocError>
     Ok(offsets)
 }
 
-// The first of the lists that is of a region.
-fn list_of(lists: &[CutList], region: RegionId) -> Option<&CutList>
+// Whether the lists stand by their regions.
+fn are_by_region(lists: &[CutList]) -> bool
+    ensures { IsTrue result → AreByRegion lists.now }
+{
+    for place in 1..lists.len() {
+        if !lists[place - 1].region.is_before(&lists[place].region) {
+            return false;
+        }
+    }
+    true
+}
+
+fn list_at(lists: &[CutList], place: usize) -> Option<&CutList>
+    ensures { option_copied result ≡ slice_get lists.now place }
+{
+    lists.get(place)
+}
+
+// The list of a region, of lists that stand by their regions: found by a search that halves them.
+fn list_among(lists: &[CutList], region: RegionId) -> Option<&CutList>
+    requires { AreByRegion lists.now }
     ensures { option_copied result ≡ find (λ list. same_region list.region region) lists.now }
 {
+    let place = lists.partition_point(
+        |list: &CutList| -> bool
+            ensures { result ≡ region_before list.now.region region }
+        { list.region.is_before(&region) },
+    );
+    match list_at(lists, place) {
+        None => None,
+        Some(list) => {
+            if list.region == region {
+                Some(list)
+            } else {
+                None
+            }
+        }
+    }
+}
+
+// The first of the lists that is of a region.
+fn list_of(lists: &[CutList], by_region: bool, region: RegionId) -> Option<&CutList>
+    requires { IsTrue by_region → AreByRegion lists.now }
+    ensures { option_copied result ≡ find (λ list. same_region list.region region) lists.now }
+{
+    if by_region {
+        return list_among(lists, region);
+    }
     lists.iter().find(|list| list.region == region)
 }
 
@@ -98,8 +146,10 @@ impl Cells {
         let heap = only(alloc, 0, 1 << 29)?;
         let frame_words = words(alloc, 273, -1024)?;
         let heap_words = words(alloc, 65, 0)?;
+        let by_region = are_by_region(lists.as_slice());
         Ok(Cells {
             lists,
+            by_region,
             image,
             frame,
             heap,
@@ -145,7 +195,7 @@ impl Cells {
         ensures value { result.now ≡ cuts_of self.now.lists region }
         ensures rising { AreRising result.now }
     {
-        match list_of(self.lists.as_slice(), home(region)) {
+        match list_of(self.lists.as_slice(), self.by_region, home(region)) {
             Some(list) => list.cuts.as_slice(),
             None => self.words(region),
         }

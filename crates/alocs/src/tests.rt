@@ -52,9 +52,20 @@ fn cells(alloc: Global) -> Result<Cells, AllocError> {
     Cells::from_cuts(alloc, lists, &image(alloc)?)
 }
 
+/// The same lists by their regions.
+fn cells_by_region(alloc: Global) -> Result<Cells, AllocError> {
+    let frame = list(alloc, RegionId::Frame(7), -8, 0x2_0000)?;
+    let global = list(alloc, RegionId::Global, 0x1004, 0x1800)?;
+    let mut lists = Vec::new(alloc);
+    lists.push(global)?;
+    lists.push(frame)?;
+    Cells::from_cuts(alloc, lists, &image(alloc)?)
+}
+
 #[test]
 fn each_offset_has_its_cell(rt: HostRuntime) {
     let cells = cells(rt.alloc()).expect(&rt, "memory");
+    let by_region = cells_by_region(rt.alloc()).expect(&rt, "memory");
     assert_eq!(rt; cells.lists().len(), 2);
     for (region, offset, cell) in [
         (RegionId::Frame(7), -9, Some((-0x10_0000, -8))),
@@ -70,6 +81,8 @@ fn each_offset_has_its_cell(rt: HostRuntime) {
         (RegionId::Global, 0x2000, Some((0x2000, 0x2008))),
     ] {
         let found = cells.cell_of(region, offset).map(|c| (c.start, c.end));
+        assert_eq!(rt; found, cell);
+        let found = by_region.cell_of(region, offset).map(|c| (c.start, c.end));
         assert_eq!(rt; found, cell);
     }
 }
