@@ -11,4 +11,5 @@ pub mod CountLemmas
 pub mod FactLemmas
 pub mod AnswerLemmas
 pub mod FollowingLemmas
+pub mod KnownLemmas
 pub mod FitLemmas

@@ -1,5 +1,5 @@
 -- How a set of cuts grows. The project's own.
-use Rattle.std.specs.Prelude.{ℕ, ◌<◌, ◌≤◌, ◌≡◌, ◌⊎◌, ℤ, pos, ◌+ℤ◌, true, List, ◌++◌, length, Contains}
+use Rattle.std.specs.Prelude.{ℕ, ◌<◌, ◌≤◌, ◌≡◌, ◌⊎◌, ℤ, pos, ◌+ℤ◌, true, Option, Some, List, ◌++◌, length, Contains}
 use Rattle.std.specs.declared.result.Result.{Result}
 use Rattle.std.specs.declared.result.Result.TheVariants.{Ok, Err}
 use Rattle.image_map.specs.declared.image.Segment.{Segment}
@@ -77,3 +77,7 @@ IsFollowing segments facts q = IsOfAny (λ f. IsIn segments (IsCarriedBy q f)) f
 
 abbrev pub IsForced : List Segment → List CutList → List Constraint → Cut → Type 0
 IsForced segments kept facts x = IsCut kept facts segments x.region x.offset
+
+-- what stands in a slot is among the cuts
+abbrev pub AreKnown : List (Option Cut) → List Cut → Type 0
+AreKnown recent cuts = (x : Cut) → Contains recent (Some x) → Contains cuts x

@@ -4,8 +4,9 @@ ghost use Rattle.image_map.specs.Whole.{IsImage};
 ghost use Rattle.asi_cuts.specs.Closed.{Answers};
 
 use crate::facts::Constraint;
+use crate::known::KnownCuts;
 use crate::lists::{CutResult, lists_of};
-use crate::set::{CutSet, Halt};
+use crate::set::Halt;
 use crate::spread::add_forced;
 use alocs::CutList;
 use image_map::Image;
@@ -25,7 +26,7 @@ pub fn close(
     requires { IsImage image.now }
     ensures { IfOk result (Answers kept.now facts.now image.now.segments) }
 {
-    let mut set = CutSet::new(alloc);
+    let mut set = KnownCuts::new(alloc)?;
     let added = add_forced(&mut set, kept, facts, image.segments.as_slice());
     let cuts = set.sorted();
     match added {

@@ -3,6 +3,7 @@
 
 mod closing;
 mod facts;
+mod known;
 mod laws;
 mod lists;
 mod rows;
@@ -13,3 +14,6 @@ pub use closing::close;
 pub use facts::Constraint;
 pub use laws::{carried_back, carried_inside, closed_lists_fit, cuts_lie_inside, least_cuts};
 pub use lists::CutResult;
+
+#[cfg(test)]
+mod tests;

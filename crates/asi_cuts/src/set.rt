@@ -64,7 +64,8 @@ impl Cut {
         }
     }
 
-    fn is(&self, other: &Cut) -> bool
+    /// Whether this cut is another.
+    pub(crate) fn is(&self, other: &Cut) -> bool
         ensures { result ≡ same_cut self.now other.now }
     {
         if self.region == other.region {

@@ -5,13 +5,14 @@ ghost use Rattle.asi_cuts.specs.declared.set.Cut.{Cut};
 ghost use Rattle.asi_cuts.specs.Adding.{Adds, IsAt, IsCarriedBy, IsEnd, IsFollowing, IsForced, IsIn, IsInSegment, IsInWindow, IsKept, IsMade, IsMadeBy, IsOf, IsOfAny, IsOfEither};
 
 use crate::facts::Constraint;
+use crate::known::KnownCuts;
 use crate::rows::{Pair, Row, elements, one, repeated, spread};
-use crate::set::{Cut, CutSet, Halt};
+use crate::set::{Cut, Halt};
 use alocs::{CutList, extent_of};
 use image_map::{RegionId, Segment};
 
 // Adds the cuts of a row from `low` up to `high`.
-fn add_window(set: &mut CutSet, row: &Row, low: i32, high: i32) -> Result<(), Halt>
+fn add_window(set: &mut KnownCuts, row: &Row, low: i32, high: i32) -> Result<(), Halt>
     requires stride { 1 ≤ row.now.stride }
     requires few { length set.old ≤ 1024 }
     ensures { Adds (IsInWindow row.now low high) set.old set.new result }
@@ -33,7 +34,7 @@ fn add_window(set: &mut CutSet, row: &Row, low: i32, high: i32) -> Result<(), Ha
 }
 
 // Adds the cuts of a row that lie in a segment.
-fn add_global(set: &mut CutSet, row: &Row, segments: &[Segment]) -> Result<(), Halt>
+fn add_global(set: &mut KnownCuts, row: &Row, segments: &[Segment]) -> Result<(), Halt>
     requires placed { ArePlaced segments.now }
     requires stride { 1 ≤ row.now.stride }
     requires few { length set.old ≤ 1024 }
@@ -50,11 +51,14 @@ fn add_global(set: &mut CutSet, row: &Row, segments: &[Segment]) -> Result<(), H
 }
 
 // Adds the cuts of a row that lie in their region.
-fn add_row(set: &mut CutSet, row: &Row, segments: &[Segment]) -> Result<(), Halt>
+fn add_row(set: &mut KnownCuts, row: &Row, segments: &[Segment]) -> Result<(), Halt>
     requires placed { ArePlaced segments.now }
     requires few { length set.old ≤ 1024 }
     ensures { Adds (IsIn segments.now (IsOf row.now)) set.old set.new result }
 {
+    if row.count == 0 {
+        return Ok(());
+    }
     let spaced = spread(row);
     match row.region {
         RegionId::Global => add_global(set, &spaced, segments),
@@ -64,7 +68,12 @@ fn add_row(set: &mut CutSet, row: &Row, segments: &[Segment]) -> Result<(), Halt
 }
 
 // Adds the cuts of two rows.
-fn add_rows(set: &mut CutSet, first: &Row, second: &Row, segments: &[Segment]) -> Result<(), Halt>
+fn add_rows(
+    set: &mut KnownCuts,
+    first: &Row,
+    second: &Row,
+    segments: &[Segment],
+) -> Result<(), Halt>
     requires placed { ArePlaced segments.now }
     requires few { length set.old ≤ 1024 }
     ensures { Adds (IsOfEither segments.now first.now second.now) set.old set.new result }
@@ -78,7 +87,7 @@ fn add_rows(set: &mut CutSet, first: &Row, second: &Row, segments: &[Segment]) -
 
 // Adds the cuts at the ends of `len` bytes at a start.
 fn add_ends(
-    set: &mut CutSet,
+    set: &mut KnownCuts,
     region: RegionId,
     start: i32,
     len: u32,
@@ -97,7 +106,7 @@ fn add_ends(
 }
 
 // Adds the cuts that a fact makes by itself.
-fn add_made(set: &mut CutSet, fact: &Constraint, segments: &[Segment]) -> Result<(), Halt>
+fn add_made(set: &mut KnownCuts, fact: &Constraint, segments: &[Segment]) -> Result<(), Halt>
     requires placed { ArePlaced segments.now }
     requires few { length set.old ≤ 1024 }
     ensures { Adds (IsIn segments.now (IsMadeBy fact.now)) set.old set.new result }
@@ -133,7 +142,12 @@ fn add_made(set: &mut CutSet, fact: &Constraint, segments: &[Segment]) -> Result
 }
 
 // Adds the cuts that a fact makes of a cut, which is there.
-fn carry(set: &mut CutSet, fact: &Constraint, cut: &Cut, segments: &[Segment]) -> Result<(), Halt>
+fn carry(
+    set: &mut KnownCuts,
+    fact: &Constraint,
+    cut: &Cut,
+    segments: &[Segment],
+) -> Result<(), Halt>
     requires placed { ArePlaced segments.now }
     requires there { Contains set.old cut.now }
     requires few { length set.old ≤ 1024 }
@@ -175,7 +189,7 @@ fn carry(set: &mut CutSet, fact: &Constraint, cut: &Cut, segments: &[Segment]) -
 
 // Adds the cuts that facts make of a cut, which is there.
 fn carry_all(
-    set: &mut CutSet,
+    set: &mut KnownCuts,
     facts: &[Constraint],
     cut: &Cut,
     segments: &[Segment],
@@ -195,7 +209,7 @@ fn carry_all(
 }
 
 // Adds the cuts that facts make by themselves.
-fn add_all_made(set: &mut CutSet, facts: &[Constraint], segments: &[Segment]) -> Result<(), Halt>
+fn add_all_made(set: &mut KnownCuts, facts: &[Constraint], segments: &[Segment]) -> Result<(), Halt>
     requires placed { ArePlaced segments.now }
     requires few { length set.old ≤ 1024 }
     ensures { Adds (IsMade segments.now facts.now) set.old set.new result }
@@ -211,7 +225,7 @@ fn add_all_made(set: &mut CutSet, facts: &[Constraint], segments: &[Segment]) ->
 
 // Adds a cut where it lies in its region.
 fn add_one(
-    set: &mut CutSet,
+    set: &mut KnownCuts,
     region: RegionId,
     offset: &i32,
     segments: &[Segment],
@@ -224,7 +238,7 @@ fn add_one(
 }
 
 // Adds the cuts of a list.
-fn add_list(set: &mut CutSet, list: &CutList, segments: &[Segment]) -> Result<(), Halt>
+fn add_list(set: &mut KnownCuts, list: &CutList, segments: &[Segment]) -> Result<(), Halt>
     requires placed { ArePlaced segments.now }
     requires few { length set.old ≤ 1024 }
     ensures { Adds (IsOfAny (λ offset. IsIn segments.now (IsAt list.now.region offset)) list.now.cuts) set.old set.new result }
@@ -239,7 +253,7 @@ fn add_list(set: &mut CutSet, list: &CutList, segments: &[Segment]) -> Result<()
 }
 
 // Adds the kept cuts.
-fn add_kept(set: &mut CutSet, kept: &[CutList], segments: &[Segment]) -> Result<(), Halt>
+fn add_kept(set: &mut KnownCuts, kept: &[CutList], segments: &[Segment]) -> Result<(), Halt>
     requires placed { ArePlaced segments.now }
     requires few { length set.old ≤ 1024 }
     ensures { Adds (IsKept segments.now kept.now) set.old set.new result }
@@ -256,7 +270,7 @@ fn add_kept(set: &mut CutSet, kept: &[CutList], segments: &[Segment]) -> Result<
 /// Adds all cuts that kept lists and facts force: first those that stand by themselves, then, cut by cut in the order in which they
 /// were found, those that facts make of it.
 pub(crate) fn add_forced(
-    set: &mut CutSet,
+    set: &mut KnownCuts,
     kept: &[CutList],
     facts: &[Constraint],
     segments: &[Segment],
