@@ -25,9 +25,15 @@ fn refusal(alloc: Global, text: &[u8]) -> Option<ScriptError> {
 #[test]
 fn refuses_lines(rt: HostRuntime) {
     let rows = [
+        ("#\u{80}", LineCause::NotText),
+        (" 1 step", LineCause::Session),
+        ("01 step", LineCause::Session),
         ("3 step", LineCause::Session),
+        ("1 slices 1", LineCause::Word),
         ("1 step 2", LineCause::Word),
         ("1 program 1", LineCause::Word),
+        ("1 slice", LineCause::Address),
+        ("1 slice 123456789", LineCause::Address),
         ("1 values 1 ", LineCause::Address),
         ("1 lane 4", LineCause::Lane),
     ];
@@ -35,6 +41,10 @@ fn refuses_lines(rt: HostRuntime) {
         let refused = refusal(rt.alloc(), line.as_bytes());
         assert_eq!(rt; refused, Some(ScriptError::Line(1, cause)), "{line:?}");
     }
+    let second = refusal(rt.alloc(), b"1 step\n1 slice xyz");
+    assert_eq!(rt; second, Some(ScriptError::Line(2, LineCause::Address)));
+    let byte = refusal(rt.alloc(), &[0xff]);
+    assert_eq!(rt; byte, Some(ScriptError::Line(1, LineCause::NotText)));
 }
 
 #[test]
@@ -43,6 +53,9 @@ fn refuses_long_scripts(rt: HostRuntime) -> Result<(), Fail> {
     assert_eq!(rt; refusal(alloc, &steps(alloc, 1024, b"\r\n# x")?), None);
     let long = steps(alloc, 1025, b"bad\n")?;
     assert_eq!(rt; refusal(alloc, &long), Some(ScriptError::TooLong(1024)));
+    let lane = steps(alloc, 1024, b"1 lane 9")?;
+    let cause = ScriptError::Line(1025, LineCause::Lane);
+    assert_eq!(rt; refusal(alloc, &lane), Some(cause));
     Ok(())
 }
 
