@@ -135,6 +135,9 @@ def main():
     parser = argparse.ArgumentParser(description=__doc__, formatter_class=argparse.RawDescriptionHelpFormatter)
     parser.add_argument('--pins', type=int, default=2_000_000, help='pins of each reader (2000000)')
     pins = parser.parse_args().pins
+    if shutil.which('rt') is None:
+        print('skipped: rt is missing')
+        return
     with tempfile.TemporaryDirectory(prefix='store-trial-') as name:
         folder = Path(name)
         program = program_in(folder)
