@@ -1,6 +1,6 @@
 -- What is read and written at the edges of the rules, computed.
 use Rattle.std.proofs.Common.{◌≡◌, ℕ, true, List, [], ◌∷◌, None, refl, ℤ}
-use Rattle.std.specs.Prelude.{pos, negsuc, Some}
+use Rattle.std.specs.Prelude.{is_some, pos, negsuc, Some}
 use Rattle.image_map.specs.declared.image.Image.{Image}
 use Rattle.image_map.specs.declared.image.Segment.{Segment}
 use Rattle.image_map.specs.declared.region.Cell.{Cell}
@@ -9,7 +9,8 @@ use Rattle.image_map.specs.declared.region.RegionId.TheVariants.{Global, Frame}
 use Rattle.image_map.specs.Regions.{region_cmp, cell_cmp}
 use Rattle.ia32_types.specs.declared.Width.TheVariants.{B8}
 use Rattle.ia32_semantics.specs.State.{little_endian}
-use Rattle.alocs.specs.Cells.{Division}
+use Rattle.alocs.specs.Cells.{Division, words}
+use Rattle.vset.specs.declared.part.Part.{Part}
 use Rattle.strided.specs.Interval.{interval, one}
 use Rattle.strided.specs.Gcd.{gcd, gcd_within}
 use Rattle.strided.specs.Operations.{clip, span, first_from, spaced, stepped, count, joint_stride, join as interval_join}
@@ -20,7 +21,7 @@ use Rattle.abs_semantics.specs.declared.parts.RangeValue.TheVariants as range
 use Rattle.abs_semantics.specs.States.{AbsState, rebuilt}
 use Rattle.abs_semantics.specs.Resolve.{verdict, rising_onto, levels, resolve}
 use Rattle.abs_semantics.specs.Touching.{cells_at, cells_of_parts}
-use Rattle.abs_semantics.specs.Accesses.{read, cells_read, write}
+use Rattle.abs_semantics.specs.Accesses.{cells_of_few, read, cells_read, write}
 use Rattle.abs_semantics.specs.Ranges.{repeated, read_range, write_range}
 
 -- -- A state in procedure 1, whose frame is cut at -8, -4, 0 and 4
@@ -96,6 +97,22 @@ two = Parts (part (Frame 1) (interval 4 (negsuc 7) (negsuc 3)) ∷ [])
 two_cells : read both division 1 two 4 ≡ Parts (part Global (interval 2 (pos 7) (pos 9)) ∷ [])
 unfolding read cells_read cells_of_parts cells_at resolve levels verdict rising_onto region_cmp cell_cmp count join settled with_parts with_part interval_join joint_stride gcd gcd_within spaced stepped
 two_cells = refl
+
+-- 64 members are read one by one, and one more isn't; the frame of another procedure is cut at each word
+abbrev words_up_to : ℤ → List Part
+words_up_to z = part (Frame 2) (interval 4 (negsuc 511) z) ∷ []
+
+sixty_four : is_some (cells_of_few division 4 (Some (words_up_to (negsuc 259)))) ≡ true
+unfolding cells_of_parts cells_at region_cmp count words
+sixty_four = refl
+
+sixty_five : cells_of_few division 4 (Some (words_up_to (negsuc 255))) ≡ None
+unfolding cells_of_parts cells_at region_cmp count words
+sixty_five = refl
+
+sixty_five_cells : is_some (cells_of_parts division 4 (words_up_to (negsuc 255))) ≡ true
+unfolding cells_of_parts cells_at region_cmp count words
+sixty_five_cells = refl
 
 -- -- Writing
 

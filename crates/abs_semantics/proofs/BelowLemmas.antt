@@ -14,26 +14,24 @@ use Rattle.ia32_semantics.specs.State.{State, little_endian}
 use Rattle.ia32_types.specs.Numbers.{reg_number}
 use Rattle.strided.specs.Interval.{Interval, IsMember}
 use Rattle.strided.specs.Operations as interval
-use Rattle.strided.proofs.BoundLemmas.{below_iff}
 use Rattle.vset.specs.declared.facts.CmpFact.{CmpFact}
 use Rattle.vset.specs.declared.facts.CmpPlace.{CmpPlace}
 use Rattle.vset.specs.declared.facts.CmpPlace.TheVariants as place
-use Rattle.vset.specs.Values.{CanonicalValues}
 use Rattle.vset.specs.Operations as values
 use Rattle.vset.specs.Operations.{same_interval}
 use Rattle.vset.specs.World.{World, Thing, TheImage, ActivationAt, BlockAt, IsIn, region_of, is_called, key_of, has_key}
 use Rattle.vset.specs.Members.{HasValue}
-use Rattle.vset.proofs.BelowLemmas.{below_has}
+use Rattle.abs_semantics.proofs.LessLemmas.{less_members, less_has}
 use Rattle.abs_cmp.specs.Facts.{IsCompared}
 use Rattle.abs_semantics.specs.declared.parts.CellValue.{CellValue}
 use Rattle.abs_semantics.specs.declared.parts.Link.{Link}
 use Rattle.abs_semantics.specs.declared.parts.Known.{Known}
-use Rattle.abs_semantics.specs.States.{AbsState, value_in, value_at, has_procedure, known_of, has_region, LinksAreCanonical}
+use Rattle.abs_semantics.specs.States.{AbsState, value_in, value_at, has_procedure, known_of, has_region}
 use Rattle.abs_semantics.specs.Joins.{same_flag, same_link, same_place, same_fact}
 use Rattle.abs_semantics.specs.Below.{register_numbers, flag_numbers, implies, is_flag_below, is_cell_below, is_link_below, is_at_most, is_size_below, is_number, is_align_below, is_fact_below}
 use Rattle.abs_semantics.specs.StandsFor.{StandsFor, world_of, IsLinked, IsSized, IsTrueAt, IsComparedIn, HoldsFact, flags_of}
 use Rattle.abs_semantics.specs.Laws.{BelowStandsForNoMore}
-use Rattle.abs_semantics.proofs.CellLemmas.{head_value, value_canonical}
+use Rattle.abs_semantics.proofs.CellLemmas.{head_value}
 
 -- -- Tests
 
@@ -123,17 +121,17 @@ module _ (lane : ℕ) (a : AbsState) (s : State) (h : StandsFor lane a s) where
 -- -- Cells
 
 cell_below : (lane : ℕ) (w : World) (n : ℕ) (a : AbsState) (c : Cell) (es : List CellValue)
-    → has_region a c.region ≡ true → CanonicalValues (value_at a c) → list_all (is_cell_below a) es ≡ true
+    → has_region a c.region ≡ true → list_all (is_cell_below a) es ≡ true
     → HasValue lane w n (value_at a c) → HasValue lane w n (value_in c es)
-cell_below lane w n a c [] has canonical e m = tt
-cell_below lane w n a c (x ∷ xs) has canonical e m =
+cell_below lane w n a c [] has e m = tt
+cell_below lane w n a c (x ∷ xs) has e m =
     let both = and_parts (is_cell_below a x) (list_all (is_cell_below a) xs) e in
     head_value (HasValue lane w n) c x xs
     (λ same. let is = same_cell-equal x.cell c same in
-    below_has lane w n (value_at a c) x.value canonical
+    less_has lane w n (value_at a c) x.value
     (implied (has_region a c.region) (values.below (value_at a c) x.value)
     (subst (λ d. implies (has_region a d.region) (values.below (value_at a d) x.value) ≡ true) is both.0) has) m)
-    (λ _. cell_below lane w n a c xs has canonical both.1 m)
+    (λ _. cell_below lane w n a c xs has both.1 m)
 
 -- -- Procedures
 
@@ -169,12 +167,12 @@ module _ (child : ℕ) (aged : Bool) (parent : ℕ) (distance : ℤ) where
           inl (key.0, key.1, key.2, carry distance within m both.1)
       by_cases rest (inr later) = inr (rest later)
 
-  links_below : (ls ms : List Link) → LinksAreCanonical ls → list_all (is_link_below ms) ls ≡ true → IsLinked ls child aged parent distance → IsLinked ms child aged parent distance
-  links_below [] ms cs e is = absurd is
-  links_below (l ∷ ls) ms cs e (inl here) =
-      one_below l ms (λ v within m less. (below_iff l.off m.off cs.0).0 less v within) (and_parts (is_link_below ms l) (list_all (is_link_below ms) ls) e).0
+  links_below : (ls ms : List Link) → list_all (is_link_below ms) ls ≡ true → IsLinked ls child aged parent distance → IsLinked ms child aged parent distance
+  links_below [] ms e is = absurd is
+  links_below (l ∷ ls) ms e (inl here) =
+      one_below l ms (λ v within m less. less_members l.off m.off less v within) (and_parts (is_link_below ms l) (list_all (is_link_below ms) ls) e).0
       (here.0, here.1, here.2) here.3
-  links_below (l ∷ ls) ms cs e (inr later) = links_below ls ms cs.1 (and_parts (is_link_below ms l) (list_all (is_link_below ms) ls) e).1 later
+  links_below (l ∷ ls) ms e (inr later) = links_below ls ms (and_parts (is_link_below ms l) (list_all (is_link_below ms) ls) e).1 later
 
 -- -- Sizes and alignments
 
@@ -254,7 +252,7 @@ module _ (lane : ℕ) (s : State) where
 -- -- States
 
 pub below_stands : BelowStandsForNoMore
-below_stands lane a b s canonical e h =
+below_stands lane a b s e h =
     let e0 = and_parts (a.root == b.root) _ e in
     let e1 = and_parts (list_all (λ n. values.below (a.registers n) (b.registers n)) register_numbers) _ e0.1 in
     let e2 = and_parts (list_all (is_flag_below a b) flag_numbers) _ e1.1 in
@@ -265,17 +263,17 @@ below_stands lane a b s canonical e h =
     let e7 = and_parts (list_all (is_size_below b.blocks) a.blocks) _ e6.1 in
     let e8 = and_parts (list_all (is_align_below a) b.aligns) _ e7.1 in
     record {
-      registers = λ n lt. below_has lane (world_of s) (s.registers n) (a.registers n) (b.registers n) (canonical.registers n)
+      registers = λ n lt. less_has lane (world_of s) (s.registers n) (a.registers n) (b.registers n)
           (register_at (λ k. values.below (a.registers k) (b.registers k)) n e1.0 lt) (h.registers n lt);
       flags = λ n lt. flag_is n (s.flags n) (flag_at (is_flag_below a b) n e2.0 lt) (h.flags n lt);
       cells = λ t c at len bytes lies read.
           cell_below lane (world_of s) (little_endian bytes) a c b.cells (subst (λ r. has_region a r ≡ true) lies.region (thing_has_region lane a s h t lies.is_in))
-          (value_canonical c a.cells canonical.cells) e3.0 (h.cells t c at len bytes lies read);
+          e3.0 (h.cells t c at len bytes lies read);
       root = λ newer oldest split. h.root newer oldest split ∙ eqb-true a.root b.root e0.0;
       live = λ newer older x split. procedure_below (λ p. has_procedure p b.live) x.callee a.live e4.0 (h.live newer older x split);
       older = λ newer older x split called. procedure_below (λ p. has_procedure p b.older) x.callee a.older e5.0 (h.older newer older x split called);
       links = λ newer older child parent split.
-          links_below child.callee (is_called child.callee newer) parent.callee (pos child.base -ℤ pos parent.base) a.links b.links canonical.links e6.0 (h.links newer older child parent split);
+          links_below child.callee (is_called child.callee newer) parent.callee (pos child.base -ℤ pos parent.base) a.links b.links e6.0 (h.links newer older child parent split);
       aligns = λ t n is_in known. h.aligns t n is_in (align_below (region_of lane t) n a b.aligns e8.0 (thing_has_region lane a s h t is_in) known);
       blocks = λ before later x is_in.
           let size = h.blocks before later x is_in in

@@ -27,7 +27,7 @@ use Rattle.abs_semantics.proofs.VerdictLemmas.{Passes, Way, StaysBelow, StaysOld
 use Rattle.abs_semantics.proofs.LevelLemmas.{IsAmong, among_before, among_after, among_flat, among_map, rising_new, IsMet, AllPass}
 use Rattle.abs_semantics.proofs.ChainLemmas.{Joins, joins, no_link, frame_verdict_is, frame_links_are, Found, bounds, lower, parent_region}
 
-fits_word : (z : ℤ) → negsuc 2147483647 ≤ℤ z → z ≤ℤ pos 2147483647 → FitsSigned w32 z
+pub fits_word : (z : ℤ) → negsuc 2147483647 ≤ℤ z → z ≤ℤ pos 2147483647 → FitsSigned w32 z
 fits_word z low high = omega (arith, ints)
 
 module _ (a : AbsState) (p len : ℕ) where

@@ -335,4 +335,4 @@ widened_stands lane old new s co cn h =
     }
 
 pub widened_stands_old : WidenedStandsForOld
-widened_stands_old lane old new s co cn less h = widened_stands lane old new s co cn (below_stands lane old new s co less h)
+widened_stands_old lane old new s co cn less h = widened_stands lane old new s co cn (below_stands lane old new s less h)

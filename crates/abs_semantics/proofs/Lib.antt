@@ -1,5 +1,6 @@
 pub mod CellLemmas
 pub mod ClearLemmas
+pub mod LessLemmas
 pub mod BelowLemmas
 pub mod JoinLemmas
 pub mod RowTests
@@ -18,4 +19,6 @@ pub mod WriteLemmas
 pub mod ReadLemmas
 pub mod SlotLemmas
 pub mod RangeLemmas
+pub mod FirstLemmas
+pub mod FormLemmas
 pub mod StartLemmas

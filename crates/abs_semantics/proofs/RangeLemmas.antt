@@ -43,9 +43,22 @@ use Rattle.abs_semantics.proofs.ReadLemmas.{lone_owned, read_range_has}
 
 -- -- A number that is stored over and over
 
-numbers_of : ℕ → ℕ
+-- numbers of so many bytes
+unfoldable pub numbers_of : ℕ → ℕ
 numbers_of zero = 1
 numbers_of (suc k) = 256 * numbers_of k
+
+pub numbers_4 : numbers_of 4 ≡ 4294967296
+unfolding numbers_of
+numbers_4 = refl
+
+pub numbers_2 : numbers_of 2 ≡ 65536
+unfolding numbers_of
+numbers_2 = refl
+
+pub numbers_1 : numbers_of 1 ≡ 256
+unfolding numbers_of
+numbers_1 = refl
 
 below_numbers : (b n distance count : ℕ) → little_endian (repeated b n distance count) < numbers_of count
 unfolding little_endian repeated numbers_of
@@ -56,22 +69,29 @@ below_numbers b n distance (suc count) =
     omega arith
 
 -- so many bytes of it are a word
-few_bytes : (b n distance count : ℕ) → (count ≡ 4) ⊎ ((count ≡ 1) ⊎ (count ≡ 2)) → little_endian (repeated b n distance count) < 4294967296
+pub few_bytes : (b n distance count : ℕ) → (count ≡ 4) ⊎ ((count ≡ 1) ⊎ (count ≡ 2)) → little_endian (repeated b n distance count) < 4294967296
 unfolding numbers_of
 few_bytes b n distance count (inl is) = let below = below_numbers b n distance count in let e : numbers_of count ≡ 4294967296 = ap numbers_of is in omega arith
 few_bytes b n distance count (inr (inl is)) = let below = below_numbers b n distance count in let e : numbers_of count ≡ 256 = ap numbers_of is in omega arith
 few_bytes b n distance count (inr (inr is)) = let below = below_numbers b n distance count in let e : numbers_of count ≡ 65536 = ap numbers_of is in omega arith
 
 -- a cell that may hold a value is of one of three lengths
-held_length : (c : Cell) (v : Values) (clen : ℕ) → c.end ≡ c.start +ℤ pos clen → may_hold c v ≡ true → (clen ≡ 4) ⊎ ((clen ≡ 1) ⊎ (clen ≡ 2))
-held_length c v clen end e =
+pub held_end : (c : Cell) (v : Values) → may_hold c v ≡ true → (n : ℕ) × ((n ≡ 4) ⊎ ((n ≡ 1) ⊎ (n ≡ 2))) × (c.end ≡ c.start +ℤ pos n)
+held_end c v e =
     ⊎_elim
-    (λ some. ⊎_elim (λ four. inl (len 4 four)) (λ one. inr (inl (len 1 (and_parts (has_length 1 c) (fits_below (pos 255) (only_number v)) one).0))) (or_cases (has_length 4 c) (has_length 1 c && fits_below (pos 255) (only_number v)) some))
-    (λ two. inr (inr (len 2 (and_parts (has_length 2 c) (fits_below (pos 65535) (only_number v)) two).0)))
+    (λ some. ⊎_elim (λ four. (4, inl refl, len 4 four)) (λ one. (1, inr (inl refl), len 1 (and_parts (has_length 1 c) (fits_below (pos 255) (only_number v)) one).0)) (or_cases (has_length 4 c) (has_length 1 c && fits_below (pos 255) (only_number v)) some))
+    (λ two. (2, inr (inr refl), len 2 (and_parts (has_length 2 c) (fits_below (pos 65535) (only_number v)) two).0))
     (or_cases (has_length 4 c || (has_length 1 c && fits_below (pos 255) (only_number v))) (has_length 2 c && fits_below (pos 65535) (only_number v)) e)
   where
-    len : (n : ℕ) → has_length n c ≡ true → clen ≡ n
-    len n is = let same : c.end ≡ c.start +ℤ pos n = same_int c.end (c.start +ℤ pos n) is in omega (arith, ints)
+    len : (n : ℕ) → has_length n c ≡ true → c.end ≡ c.start +ℤ pos n
+    len n is = same_int c.end (c.start +ℤ pos n) is
+
+pub held_length : (c : Cell) (v : Values) (clen : ℕ) → c.end ≡ c.start +ℤ pos clen → may_hold c v ≡ true → (clen ≡ 4) ⊎ ((clen ≡ 1) ⊎ (clen ≡ 2))
+held_length c v clen end e =
+    let h = held_end c v e in
+    let last : c.end ≡ c.start +ℤ pos h.0 = h.2 in
+    let same : h.0 ≡ clen = omega (arith, ints) in
+    subst (λ n. (n ≡ 4) ⊎ ((n ≡ 1) ⊎ (n ≡ 2))) same h.1
 
 -- -- One place of one thing
 

@@ -1,4 +1,4 @@
--- An abstract state stands for each state in which a run starts.
+-- An abstract state stands for each state in which a run starts, the bytes of memory left out.
 use Rattle.std.proofs.Common.{◌≡◌, ℕ, ◌+◌, ◌%◌, ◌==◌, true, false, not, List, [], ◌∷◌, ◌++◌, inl, refl, sym, ◌∙◌, ap, arith}
 use Rattle.std.specs.Prelude.{pos, ◌+ℤ◌}
 use Rattle.std.proofs.lemmas.Bool.{cond_both, eqb-true, eq-eqb, or_left, false≢true}
@@ -17,10 +17,9 @@ use Rattle.vset.specs.World.{Thing, TheImage, ActivationAt, BlockAt, IsIn, base_
 use Rattle.vset.specs.Members.{HasValue, IsPartMember}
 use Rattle.abs_semantics.specs.StandsFor.{StandsFor, world_of}
 use Rattle.abs_semantics.specs.Start.{entry_state}
-use Rattle.abs_semantics.specs.Laws.{StartsHaveStates}
 use Rattle.abs_semantics.proofs.BelowLemmas.{first_known, none_some}
 
-empty_split : {X : Type 0} (newer older : List X) (x : X) → [] ≡ newer ++ (x ∷ older) → ⊥
+pub empty_split : {X : Type 0} (newer older : List X) (x : X) → [] ≡ newer ++ (x ∷ older) → ⊥
 empty_split [] older x e = cc
 empty_split (n ∷ newer) older x e = cc
 
@@ -29,7 +28,7 @@ only_one f [] older x e = (refl, cc, cc)
 only_one f (n ∷ newer) older x e = absurd (empty_split newer older x (cc))
 
 module _ (image : Image) (settings : Settings) (lane : ℕ) (s : State) (h : IsStart image settings s) where
-  one_split : (newer older : List Activation) (x : Activation) → s.activations ≡ newer ++ (x ∷ older) → (newer ≡ []) × (x ≡ entry_activation settings s.slot) × (older ≡ [])
+  pub one_split : (newer older : List Activation) (x : Activation) → s.activations ≡ newer ++ (x ∷ older) → (newer ≡ []) × (x ≡ entry_activation settings s.slot) × (older ≡ [])
   one_split newer older x e = only_one (entry_activation settings s.slot) newer older x (sym h.activations ∙ e)
 
   stack_pointer : (n : ℕ) → (n == 4) ≡ true → IsPartMember lane (world_of s) (s.registers n) (part (Frame settings.entry) (one (pos 0)))
@@ -75,6 +74,3 @@ module _ (image : Image) (settings : Settings) (lane : ℕ) (s : State) (h : IsS
     where
       not_more : (x : Activation) (xs : List Activation) → x ∷ xs ≡ [] → ⊥
       not_more x xs e = cc
-
-pub starts_have_states : StartsHaveStates
-starts_have_states image settings lane s h = start_stands image settings lane s h

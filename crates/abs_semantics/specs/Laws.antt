@@ -1,5 +1,5 @@
 -- What follows from the definitions of abstract states. The project's own.
-use Rattle.std.specs.Prelude.{◌≡◌, ℕ, ◌+◌, ◌≤◌, Bool, true, false, if◌then◌else◌, List, [], Some, None}
+use Rattle.std.specs.Prelude.{◌≡◌, ℕ, ◌+◌, ◌≤◌, Bool, true, false, if◌then◌else◌, List, [], Option, Some, None}
 use Rattle.std.specs.List.{list_any}
 use Rattle.image_map.specs.declared.image.Image.{Image}
 use Rattle.image_map.specs.declared.region.Cell.{Cell}
@@ -13,7 +13,7 @@ use Rattle.abs_semantics.specs.declared.parts.RangeValue.{RangeValue}
 use Rattle.abs_semantics.specs.States.{AbsState, HasCanonical, value_at, rebuilt}
 use Rattle.abs_semantics.specs.Joins.{joined_state, widened_state}
 use Rattle.abs_semantics.specs.Below.{state_below}
-use Rattle.abs_semantics.specs.Start.{entry_state}
+use Rattle.abs_semantics.specs.Start.{initial_state}
 use Rattle.abs_semantics.specs.StandsFor.{StandsFor, world_of}
 use Rattle.abs_semantics.specs.Resolve.{resolve}
 use Rattle.abs_semantics.specs.Touching.{touches_slot}
@@ -25,7 +25,7 @@ use Rattle.abs_semantics.specs.Stores.{with_memory, IsStored, HoldsNumber, Holds
 -- what is below stands for no more
 abbrev pub BelowStandsForNoMore : Type 0
 BelowStandsForNoMore =
-    (lane : ℕ) (a b : AbsState) (s : State) → HasCanonical a → state_below a b ≡ true → StandsFor lane a s → StandsFor lane b s
+    (lane : ℕ) (a b : AbsState) (s : State) → state_below a b ≡ true → StandsFor lane a s → StandsFor lane b s
 
 -- a state without what some cells hold
 abbrev pub cleared : (Cell → Bool) → AbsState → AbsState
@@ -56,10 +56,10 @@ WidenedStandsForOld =
     (lane : ℕ) (old new : AbsState) (s : State) → HasCanonical old → HasCanonical new → state_below old new ≡ true
     → StandsFor lane old s → StandsFor lane (widened_state old new) s
 
--- it stands for each state in which a run starts
+-- The initial state stands for each state in which a run starts.
 abbrev pub StartsHaveStates : Type 0
 StartsHaveStates =
-    (image : Image) (settings : Settings) (lane : ℕ) (s : State) → IsStart image settings s → StandsFor lane (entry_state settings.entry) s
+    (image : Image) (settings : Settings) (lane : ℕ) (s : State) (d : Division) → IsStart image settings s → StandsFor lane (initial_state image d settings.entry) s
 
 -- -- Where addresses lie
 
@@ -112,3 +112,16 @@ SlotsAreLeft =
     → IsKnown image lane a p s → HasCanonical a → CanonicalValues v → IsRange lane s v at count len → (resolve a p v len).reasons ≡ []
     → list_any (touches_slot len) (resolve a p v len).entries ≡ false → IsStored image s at count memory
     → AreActivations image memory s.slot s.activations
+
+-- -- The form that the analysis keeps
+
+abbrev pub ReadsHaveForm : Type 0
+ReadsHaveForm = (a : AbsState) (d : Division) (p : ℕ) (v : Values) (len : ℕ) → HasCanonical a → CanonicalValues (read a d p v len)
+
+abbrev pub WritesKeepForm : Type 0
+WritesKeepForm =
+    (image : Image) (a : AbsState) (d : Division) (p : ℕ) (v : Values) (len : ℕ) (w : Values) → HasCanonical a → CanonicalValues w → HasCanonical (write a d image p v len w)
+
+abbrev pub RangeWritesKeepForm : Type 0
+RangeWritesKeepForm =
+    (image : Image) (a : AbsState) (d : Division) (p : ℕ) (v : Values) (len : Option ℕ) (w : RangeValue) → HasCanonical a → HasCanonical (write_range a d image p v len w)

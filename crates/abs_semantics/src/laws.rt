@@ -1,6 +1,6 @@
 //! Laws of the definitions.
 
-ghost use Rattle.abs_semantics.specs.Laws.{BelowStandsForNoMore, ClearedCellsStandForMore, JoinedStandsForFirst, JoinedStandsForSecond, WidenedStandsForNew, WidenedStandsForOld, StartsHaveStates, ResolvedBytesAreOwned, ReadsAreMembers, RangeReadsAreMembers, WritesStandOn, RangeWritesStandOn, UnknownWritesStandOn, SlotsAreLeft};
+ghost use Rattle.abs_semantics.specs.Laws.{BelowStandsForNoMore, ClearedCellsStandForMore, JoinedStandsForFirst, JoinedStandsForSecond, WidenedStandsForNew, WidenedStandsForOld, StartsHaveStates, ResolvedBytesAreOwned, ReadsAreMembers, RangeReadsAreMembers, WritesStandOn, RangeWritesStandOn, UnknownWritesStandOn, SlotsAreLeft, ReadsHaveForm, WritesKeepForm, RangeWritesKeepForm};
 
 /// What lies below an abstract state stands for no more states.
 pub fn below_stands_for_no_more()
@@ -32,7 +32,7 @@ pub fn widened_stands_for_old()
     ensures { WidenedStandsForOld }
 {}
 
-/// An abstract state stands for each state in which a run starts.
+/// The initial abstract state stands for each state in which a run starts.
 pub fn starts_have_states()
     ensures { StartsHaveStates }
 {}
@@ -72,4 +72,19 @@ pub fn unknown_writes_stand_on()
 /// it was.
 pub fn slots_are_left()
     ensures { SlotsAreLeft }
+{}
+
+/// What a read gives has intervals of the one form, where those of the state have it.
+pub fn reads_have_form()
+    ensures { ReadsHaveForm }
+{}
+
+/// A write of a value whose intervals have the one form leaves a state whose intervals have it.
+pub fn writes_keep_form()
+    ensures { WritesKeepForm }
+{}
+
+/// So does a write to a range.
+pub fn range_writes_keep_form()
+    ensures { RangeWritesKeepForm }
 {}
