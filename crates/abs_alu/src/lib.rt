@@ -9,4 +9,6 @@ mod results;
 mod tests;
 mod words;
 
+pub use operands::known;
 pub use results::abs;
+pub use words::number;

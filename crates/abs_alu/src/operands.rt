@@ -68,7 +68,7 @@ fn single_word<const W: u32>(numbers: Option<Si>) -> Option<u32>
 
 /// The word of the width that is the one value, where there is one alone.
 #[tactic(auto, unfolding(crate::specs::Operands::known))]
-pub(crate) fn known<const W: u32>(v: &ValueSet) -> Option<u32>
+pub fn known<const W: u32>(v: &ValueSet) -> Option<u32>
     requires { IsWidth W }
     ensures value { result ≡ known_spec W v.now }
     ensures below { IfSome result (λ n. n < 2 ^ W) }

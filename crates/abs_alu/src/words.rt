@@ -13,7 +13,7 @@ use strided::Si;
 use vset::{AbsFlags, ValueSet};
 
 /// The one number.
-pub(crate) fn number(value: i32) -> ValueSet
+pub fn number(value: i32) -> ValueSet
     ensures { result ≡ number_spec value }
 {
     ValueSet::numbers(Si::one(value))
