@@ -16,8 +16,7 @@ abbrev pub sets_of : MayBe → AbsFlags
 sets_of may = record { zero = flag_set (λ f. may (flag_number f) false); one = flag_set (λ f. may (flag_number f) true) }
 
 abbrev pub allows : AbsFlags → ℕ → Bool → Bool
-allows f n true = has_flag f.one (flag_of n)
-allows f n false = has_flag f.zero (flag_of n)
+allows f n value = has_flag (if value then f.one else f.zero) (flag_of n)
 
 -- the five flags of arithmetic are as the sets say; DF stays
 abbrev pub with_five : AbsFlags → MayBe → MayBe
@@ -46,17 +45,17 @@ differ p q false = (p true && q true) || (p false && q false)
 abbrev pub is_less : MayBe → Bool → Bool
 is_less may = differ (may 3) (may 4)
 
--- the condition of number 2n
+-- whether the condition of number 2n may come out so
 unfoldable pub even_condition : ℕ → MayBe → Bool → Bool
-even_condition n may =
-    (if n == 0 then may 4 else
-    (if n == 1 then may 0 else
-    (if n == 2 then may 2 else
-    (if n == 3 then either (may 0) (may 2) else
-    (if n == 4 then may 3 else
-    (if n == 5 then may 1 else
-    (if n == 6 then is_less may else
-    either (may 2) (is_less may))))))))
+even_condition n may holds =
+    (if n == 0 then may 4 holds else
+    (if n == 1 then may 0 holds else
+    (if n == 2 then may 2 holds else
+    (if n == 3 then either (may 0) (may 2) holds else
+    (if n == 4 then may 3 holds else
+    (if n == 5 then may 1 holds else
+    (if n == 6 then is_less may holds else
+    either (may 2) (is_less may) holds)))))))
 
 -- whether a condition may come out so
 unfoldable pub may_hold : ℕ → MayBe → Bool → Bool

@@ -33,7 +33,7 @@ use Rattle.abs_semantics.specs.Operands.{address, word_number, with_part_value}
 use Rattle.abs_steps.specs.Effects.{AbsEffect, puts, turns, frees, steers, saves, learns, all_done}
 use Rattle.abs_steps.specs.Views.{View, held, flags_held, flag_sets, value_of, address_of, stored_at, store_to, with_held}
 use Rattle.abs_steps.specs.Strings.{moved, stored}
-use Rattle.abs_steps.specs.Results.{is_zero, aligned_or, keeps_flags, widened, sign_of, truth_of, chosen_by, known_quotient}
+use Rattle.abs_steps.specs.Results.{are_one_register, is_zero, aligned_or, keeps_flags, widened, sign_of, truth_of, chosen_by, known_quotient}
 
 -- -- Arithmetic
 
@@ -45,7 +45,7 @@ flag_effects v w o a b = if keeps_flags w o b then [] else turns (flags w o a b 
 abbrev pub result : View → Op → Instr → Values → Values → Values
 result v o i a b =
     if is_zero o i.width i.dst i.src then number (pos 0)
-    else aligned_or v.state o i.width a b (value (bits i.width) o a b (flag_sets v))
+    else aligned_or v.state.aligns o i.width a b (value (bits i.width) o a b (flag_sets v))
 
 -- two operands, of which the first takes the result
 abbrev pub computed_of : View → Op → Instr → Values → Values → List AbsEffect
@@ -97,8 +97,7 @@ learned _ _ = []
 -- a comparison of 32 bits with numbers is remembered, and a test of a register by itself, which compares it with 0
 unfoldable pub learned_by : View → Op → Width → Option Operand → Option Operand → Values → List AbsEffect
 learned_by v op.Cmp D32 first second b = learned (place_of v first) (only_number b)
-learned_by v op.Test D32 (Some (operand.Reg r)) (Some (operand.Reg q)) b =
-    if is_same_reg r q then learns (fact_on (place.Reg r) (one (pos 0))) ∷ [] else []
+learned_by v op.Test D32 first second b = if are_one_register first second then learned (place_of v first) (Some (one (pos 0))) else []
 learned_by v _ width first second b = []
 
 -- two operands, of which only flags are made
