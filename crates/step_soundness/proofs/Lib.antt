@@ -1,0 +1,5 @@
+pub mod WordLaws
+pub mod ConditionLaws
+pub mod ExtensionLaws
+pub mod PointerLaws
+pub mod CoreLaws

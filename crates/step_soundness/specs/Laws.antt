@@ -1,0 +1,133 @@
+-- That what an abstract step gives of values holds what the machine gives, and that an abstract state after a change of registers and
+-- flags stands for the machine's state after the same change. The laws are the project's own.
+use Rattle.std.specs.Prelude.{◌≡◌, ℕ, ◌+◌, ◌-◌, ◌/◌, ◌%◌, ◌^◌, ◌<◌, ◌≤◌, Bool, true, false, if◌then◌else◌, Some}
+use Rattle.image_map.specs.declared.image.Image.{Image}
+use Rattle.ia32_types.specs.declared.Mem.{Mem}
+use Rattle.ia32_types.specs.declared.Width.{Width}
+use Rattle.ia32_types.specs.Operands.{IsWide, IsNarrow}
+use Rattle.ia32_semantics.specs.declared.flags.Flags.{Flags}
+use Rattle.ia32_semantics.specs.Alu.{sign}
+use Rattle.ia32_semantics.specs.Condition.{holds}
+use Rattle.ia32_semantics.specs.Effects.{Part, sets, turns as turns_flag, changed, with_part}
+use Rattle.ia32_semantics.specs.Operands.{bits, low_part}
+use Rattle.ia32_semantics.specs.Product.{extended}
+use Rattle.ia32_semantics.specs.State.{State}
+use Rattle.ia32_semantics.specs.Strings.{stepped as steps}
+use Rattle.si_bits.specs.Concrete as concrete
+use Rattle.strided.specs.Interval.{Interval, IsMember, IsCanonical}
+use Rattle.alocs.specs.Cells.{Division}
+use Rattle.vset.specs.declared.facts.AbsFlags.{AbsFlags}
+use Rattle.vset.specs.declared.facts.CmpFact.{CmpFact}
+use Rattle.vset.specs.Members.{HasValue}
+use Rattle.vset.specs.Values.{Values, CanonicalValues}
+use Rattle.vset.specs.World.{World}
+use Rattle.abs_alu.specs.Operands.{known}
+use Rattle.abs_semantics.specs.States.{AbsState}
+use Rattle.abs_semantics.specs.Operands.{address, low_of, second_byte, with_part_value}
+use Rattle.abs_semantics.specs.StandsFor.{StandsFor, world_of, HoldsFact}
+use Rattle.abs_steps.specs.Effects.{puts, turns, frees, steers, learns, done}
+use Rattle.abs_steps.specs.Flags.{MayBe, allows, may_hold}
+use Rattle.abs_steps.specs.Results.{chosen_by, sign_of, truth_of, widened}
+use Rattle.abs_steps.specs.Rows.{pushed_at, risen}
+use Rattle.abs_steps.specs.Strings.{grown, stepped}
+use Rattle.step_soundness.specs.Terms.{IsPart, AreAllowed, RegistersHold, address_in}
+
+-- -- Values
+
+-- the low part of a word, and its second byte
+abbrev pub LowPartsAreHeld : Type 0
+LowPartsAreHeld =
+    (lane : ℕ) (w : World) (v : Values) (n : ℕ) (width : Width) → CanonicalValues v → n < 4294967296 → HasValue lane w n v → HasValue lane w (low_part width n) (low_of width v)
+
+abbrev pub SecondBytesAreHeld : Type 0
+SecondBytesAreHeld =
+    (lane : ℕ) (w : World) (v : Values) (n : ℕ) → CanonicalValues v → n < 4294967296 → HasValue lane w n v → HasValue lane w (n / 256 % 256) (second_byte (known 32 v))
+
+-- a register of which a part takes a number
+abbrev pub WrittenPartsAreHeld : Type 0
+WrittenPartsAreHeld =
+    (lane : ℕ) (w : World) (old new : Values) (n m : ℕ) (part : Part) → CanonicalValues old → n < 4294967296 → m < 4294967296 → HasValue lane w n old → HasValue lane w m new → IsPart part m
+    → HasValue lane w (with_part part n m) (with_part_value part old new)
+
+-- a byte or a word with zeros or with its sign above it
+abbrev pub ExtensionsAreHeld : Type 0
+ExtensionsAreHeld =
+    (lane : ℕ) (w : World) (v : Values) (n : ℕ) (signed : Bool) (from to : Width) → CanonicalValues v → HasValue lane w n v → IsNarrow from → IsWide to → n < 2 ^ bits from
+    → HasValue lane w (extended signed (bits from) (bits to) n) (widened signed from to v)
+
+abbrev pub SignsAreHeld : Type 0
+SignsAreHeld =
+    (lane : ℕ) (w : World) (v : Values) (n : ℕ) → n < 4294967296 → HasValue lane w n v → HasValue lane w (if sign 32 n then 4294967295 else 0) (sign_of v)
+
+-- -- Conditions
+
+-- a condition may come out as it does on flags that may be so
+abbrev pub ConditionsMayHold : Type 0
+ConditionsMayHold = (may : MayBe) (f : Flags) (c : ℕ) → AreAllowed may f → may_hold c may (holds c f) ≡ true
+
+abbrev pub TruthsAreHeld : Type 0
+TruthsAreHeld =
+    (lane : ℕ) (w : World) (may : MayBe) (f : Flags) (c : ℕ) → AreAllowed may f → HasValue lane w (if holds c f then 1 else 0) (truth_of c may)
+
+abbrev pub ChoicesAreHeld : Type 0
+ChoicesAreHeld =
+    (lane : ℕ) (w : World) (may : MayBe) (f : Flags) (c : ℕ) (new old : Values) (m n : ℕ) → AreAllowed may f → CanonicalValues new → CanonicalValues old → HasValue lane w m new → HasValue lane w n old
+    → HasValue lane w (if holds c f then m else n) (chosen_by c may new old)
+
+-- -- Pointers and addresses
+
+-- the stack pointer after a push and after a pop
+abbrev pub PushedPointersAreHeld : Type 0
+PushedPointersAreHeld =
+    (lane : ℕ) (w : World) (v : Values) (n : ℕ) → CanonicalValues v → HasValue lane w n v → HasValue lane w ((n + 4294967296 - 4) % 4294967296) (pushed_at v)
+
+abbrev pub RisenPointersAreHeld : Type 0
+RisenPointersAreHeld = (lane : ℕ) (w : World) (v : Values) (n : ℕ) → CanonicalValues v → HasValue lane w n v → HasValue lane w ((n + 4) % 4294967296) (risen v)
+
+-- a pointer after an element of a string, and after so many upwards
+abbrev pub SteppedPointersAreHeld : Type 0
+SteppedPointersAreHeld =
+    (lane : ℕ) (w : World) (v : Values) (n : ℕ) (may : MayBe) (down : Bool) (z : ℕ) → CanonicalValues v → HasValue lane w n v → may 5 down ≡ true → z ≤ 4
+    → HasValue lane w (steps down z 1 n) (stepped may z v)
+
+abbrev pub GrownPointersAreHeld : Type 0
+GrownPointersAreHeld =
+    (lane : ℕ) (w : World) (c : Interval) (count : ℕ) (v : Values) (n z : ℕ) → IsCanonical c → count < 4294967296 → IsMember (concrete.number count) c → z < 2147483648
+    → CanonicalValues v → HasValue lane w n v → HasValue lane w (steps false z count n) (grown z c v)
+
+-- the address of a memory operand
+abbrev pub AddressesAreHeld : Type 0
+AddressesAreHeld =
+    (lane : ℕ) (w : World) (a : AbsState) (s : State) (m : Mem) → RegistersHold lane w a s → m.scale < 2147483648 → m.disp < 4294967296 → HasValue lane w (address_in s m) (address a m)
+
+-- -- States
+
+-- a part of a register takes a number
+abbrev pub WrittenRegistersStand : Type 0
+WrittenRegistersStand =
+    (lane : ℕ) (d : Division) (image : Image) (p : ℕ) (a : AbsState) (s : State) (part : Part) (n m : ℕ) (v : Values) → StandsFor lane a s
+    → CanonicalValues (a.registers n) → n < 8 → s.registers n < 4294967296 → IsPart part m → m < 4294967296 → HasValue lane (world_of s) m v
+    → StandsFor lane (done d image p (puts part n v) a) (changed (sets part n m) s)
+
+-- the five flags are written: with what some sets allow, or with anything
+abbrev pub WrittenFlagsStand : Type 0
+WrittenFlagsStand =
+    (lane : ℕ) (d : Division) (image : Image) (p : ℕ) (a : AbsState) (s : State) (flags : ℕ → Bool) (f : AbsFlags) → StandsFor lane a s → flags 5 ≡ s.flags 5
+    → ((n : ℕ) → n < 5 → allows f n (flags n) ≡ true) → StandsFor lane (done d image p (turns f) a) (record s { flags = flags })
+
+abbrev pub FreedFlagsStand : Type 0
+FreedFlagsStand =
+    (lane : ℕ) (d : Division) (image : Image) (p : ℕ) (a : AbsState) (s : State) (flags : ℕ → Bool) → StandsFor lane a s → flags 5 ≡ s.flags 5
+    → StandsFor lane (done d image p frees a) (record s { flags = flags })
+
+-- DF is written
+abbrev pub WrittenDirectionsStand : Type 0
+WrittenDirectionsStand =
+    (lane : ℕ) (d : Division) (image : Image) (p : ℕ) (a : AbsState) (s : State) (set : Bool) → StandsFor lane a s
+    → StandsFor lane (done d image p (steers set) a) (changed (turns_flag 5 set) s)
+
+-- a comparison that was made is remembered
+abbrev pub LearnedFactsStand : Type 0
+LearnedFactsStand =
+    (lane : ℕ) (d : Division) (image : Image) (p : ℕ) (a : AbsState) (s : State) (f : CmpFact) → StandsFor lane a s → HoldsFact lane s (Some f)
+    → StandsFor lane (done d image p (learns f) a) s
