@@ -16,6 +16,7 @@ use Rattle.ia32_semantics.specs.Machine.{Occurrence}
 use Rattle.ia32_semantics.specs.Runs.{stands_at}
 use Rattle.ia32_semantics.specs.Step.{Act, Happens, completes}
 use Rattle.ia32_semantics.specs.Ia32.{machine}
+use Rattle.ia32_semantics.proofs.ReadingLemmas.{or_left, or_right}
 use Rattle.slice_soundness.specs.Maps.{Map}
 use Rattle.slice_soundness.specs.Premises.{Row}
 use Rattle.surf_prog.specs.Straight.Code.{Lists, straight_graph}
@@ -66,18 +67,10 @@ index_is (j ∷ rest) (suc k) i rising is =
     let low = above_there j.at rest k i rising.0 is in
     ap (λ b. if b then 0 else suc (index_in rest i.at)) (ne_eqb j.at i.at (λ e. omega arith)) ∙ ap suc (index_is rest k i rising.1 is)
 
-or_first : (first later : Bool) → first ≡ true → (first || later) ≡ true
-or_first true later e = refl
-or_first false later e = absurd (false≢true e)
-
-or_later : (first later : Bool) → later ≡ true → (first || later) ≡ true
-or_later true later e = refl
-or_later false later e = e
-
 pub among_is : (instrs : List Instr) (k : ℕ) (i : Instr) → slice_get instrs k ≡ Some i → is_among instrs i.at ≡ true
 among_is [] k i is = absurd (none-some i is)
-among_is (j ∷ rest) zero i is = or_first (j.at == i.at) (is_among rest i.at) (eq-eqb j.at i.at (ap (λ (x : Instr). x.at) (same_Some j i is)))
-among_is (j ∷ rest) (suc k) i is = or_later (j.at == i.at) (is_among rest i.at) (among_is rest k i is)
+among_is (j ∷ rest) zero i is = or_left (j.at == i.at) (is_among rest i.at) (eq-eqb j.at i.at (ap (λ (x : Instr). x.at) (same_Some j i is)))
+among_is (j ∷ rest) (suc k) i is = or_right (j.at == i.at) (is_among rest i.at) (among_is rest k i is)
 
 -- -- The instructions from an index on
 

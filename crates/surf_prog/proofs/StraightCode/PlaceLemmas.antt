@@ -21,10 +21,6 @@ pub both_of : (a b : Bool) → IsTrue (a && b) → IsTrue a × IsTrue b
 both_of true b h = (refl, h)
 both_of false b h = absurd (false≢true h)
 
-pub both_are : (a b : Bool) → IsTrue a → IsTrue b → IsTrue (a && b)
-both_are true b p q = q
-both_are false b p q = absurd (false≢true p)
-
 pub either_of : (a b : Bool) → IsTrue (a || b) → IsTrue a ⊎ IsTrue b
 either_of true b h = inl refl
 either_of false b h = inr h
