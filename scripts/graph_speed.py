@@ -1,14 +1,13 @@
 #!/usr/bin/env python3
-"""Times edges, controls and slices of made flow graphs, and prints a table: seconds of processor without those of making the
-graph, and the greatest memory in MiB. `controls` and `plain-controls` take one node of 64; `slice` takes in the edges. The
-program is scripts/graph_speed.rt.txt. It is put into a folder of its own outside the repository, proved over copies of the
-repository's libraries, built by LLVM, and run once for each figure.
+"""Compares both bodies of edges and of controls on small graphs, times edges, controls and slices of great ones, and prints a
+table: seconds of processor without those of making the graph, and the greatest memory in MiB. `controls` and `plain-controls`
+take one node of 64; `slice` takes in the edges. The program is scripts/graph_speed.rt.txt. It is put into a folder of its own
+outside the repository, proved over copies of the repository's libraries, built by LLVM, and run for each figure.
 
 usage: graph_speed.py [--times N] [--keep FOLDER]   (the least of N runs, 3 unless said; FOLDER is made and kept)"""
 
 import argparse
 import os
-import resource
 import shutil
 import subprocess
 import tempfile
@@ -22,6 +21,9 @@ ORDERS = {'in order': (1, 0), 'reversed': (-1, -1), 'shuffled': (1597, 7)}
 
 # nodes, of which so many use and define every place
 GRAPHS = [(4096, 0), (4096, 100), (8192, 0), (8192, 100)]
+
+# On so many small graphs both bodies are compared.
+COMPARED = 1000
 
 TASKS = ['edges', 'plain-edges', 'controls', 'plain-controls', 'slice']
 
@@ -73,6 +75,8 @@ def main():
     folder.mkdir(parents=True, exist_ok=True)
     try:
         program = build(folder)
+        same, _, _ = run(program, ['compare', COMPARED])
+        print(f'Of {COMPARED} small graphs both bodies give the same edges and branches of {same}.')
         print('| Nodes | wide | numbers | task | result | seconds | MiB |')
         print('|---|---|---|---|---|---|---|')
         for nodes, wide in GRAPHS:
