@@ -1,0 +1,3 @@
+pub mod PutLemmas
+pub mod FoldLemmas
+pub mod ViewLemmas
