@@ -1,2 +1,5 @@
+pub mod Answers
 pub mod Chops
 pub mod Paths
+pub mod Masks
+pub mod Following

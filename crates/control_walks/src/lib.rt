@@ -11,6 +11,7 @@ mod scratch;
 mod split;
 
 pub use scratch::{WalkScratch, controls, flood, flood_all};
+pub use split::at_of;
 
 #[cfg(test)]
 mod tests;

@@ -93,6 +93,20 @@ impl WalkScratch {
         )
     }
 
+    /// The row of the last flood that shows which nodes reach the flooded ones.
+    pub fn reaching(&self) -> &[u64]
+        ensures { result.now ≡ self.now.reaching }
+    {
+        self.reaching.as_slice()
+    }
+
+    /// The row of the last flood that shows from which nodes an end is reached round the flooded ones' addresses.
+    pub fn escaping(&self) -> &[u64]
+        ensures { result.now ≡ self.now.escaping }
+    {
+        self.escaping.as_slice()
+    }
+
     /// The branches last listed by `controls`.
     pub fn branches(&self) -> &[u32]
         ensures { result.now ≡ self.now.branches }

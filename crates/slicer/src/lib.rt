@@ -11,7 +11,10 @@ mod scratch;
 mod search;
 
 pub use graph::{RoundGraph, slice_laws};
+pub use list::list_slice;
+pub use queue::Queue;
 pub use scratch::{Absent, Scratch, backward};
+pub use search::{begin, follow};
 
 #[cfg(test)]
 mod tests;
