@@ -1,6 +1,6 @@
 -- What memory holds where a run starts.
 use Rattle.std.proofs.Common.{◌≡◌, ℕ, zero, suc, ◌+◌, ◌*◌, ◌^◌, ◌<◌, ◌⊎◌, inl, inr, ⊎_elim, true, cond, ◌||◌, List, [], ◌∷◌, map, Option, Some, None, refl, sym, ◌∙◌, ap, subst, arith, pos, ◌+ℤ◌}
-use Rattle.std.specs.Prelude.{option_map}
+use Rattle.std.specs.Prelude.{is_some, option_map}
 use Rattle.std.specs.Int.{int_gap, cast_unsigned, w32}
 use Rattle.std.proofs.lemmas.Int.{ints, int_wrap_fits}
 use Rattle.std.proofs.lemmas.Bool.{cond_both, or_cases}
@@ -46,6 +46,14 @@ first_byte m a n bytes e = by_parts (m a) refl (bytes_at m (a + 1) n) refl e
     by_parts None x_is y y_is e = absurd (cc)
     by_parts (Some byte) x_is None y_is e = absurd (cc)
     by_parts (Some byte) x_is (Some rest) y_is e = (byte, rest, x_is, y_is, (let same : byte ∷ rest ≡ bytes = cc in sym same))
+
+-- bytes that are read are there
+pub bytes_mapped : (m : Bytes) (a n : ℕ) (bytes : List ℕ) → bytes_at m a n ≡ Some bytes → (k : ℕ) → k < n → is_some (m (a + k)) ≡ true
+bytes_mapped m a zero bytes e k lt = absurd (omega arith)
+bytes_mapped m a (suc n) bytes e zero lt = subst (λ x. is_some (m x) ≡ true) (let same : a ≡ a + 0 = omega arith in same) (ap is_some (first_byte m a n bytes e).2)
+bytes_mapped m a (suc n) bytes e (suc k) lt =
+    let f = first_byte m a n bytes e in
+    subst (λ x. is_some (m x) ≡ true) (let same : a + 1 + k ≡ a + suc k = omega arith in same) (bytes_mapped m (a + 1) n f.1 f.3 k (omega arith))
 
 -- so many bytes make a number below this
 pub below_bytes : (m : Bytes) → ((a byte : ℕ) → m a ≡ Some byte → byte < 256) → (a n : ℕ) (bytes : List ℕ) → bytes_at m a n ≡ Some bytes → little_endian bytes < numbers_of n

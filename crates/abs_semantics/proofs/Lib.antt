@@ -21,4 +21,5 @@ pub mod SlotLemmas
 pub mod RangeLemmas
 pub mod FirstLemmas
 pub mod FormLemmas
+pub mod MemoryLemmas
 pub mod StartLemmas

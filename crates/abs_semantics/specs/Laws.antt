@@ -1,10 +1,14 @@
 -- What follows from the definitions of abstract states. The project's own.
-use Rattle.std.specs.Prelude.{◌≡◌, ℕ, ◌+◌, ◌≤◌, Bool, true, false, if◌then◌else◌, List, [], Option, Some, None}
+use Rattle.std.specs.Prelude.{◌≡◌, ℕ, ◌+◌, ◌^◌, ◌<◌, ◌≤◌, Bool, true, false, if◌then◌else◌, List, [], Option, Some, None}
 use Rattle.std.specs.List.{list_any}
 use Rattle.image_map.specs.declared.image.Image.{Image}
 use Rattle.image_map.specs.declared.region.Cell.{Cell}
 use Rattle.image_map.specs.declared.region.Settings.{Settings}
 use Rattle.ia32_semantics.specs.CallModel.{IsStart, AreActivations}
+use Rattle.ia32_types.specs.declared.Mem.{Mem}
+use Rattle.ia32_types.specs.declared.Width.{Width}
+use Rattle.ia32_semantics.specs.Operands.{memory_value as memory_read}
+use Rattle.ia32_semantics.specs.Reading.{outcome}
 use Rattle.ia32_semantics.specs.State.{State, Bytes, bytes_at, little_endian}
 use Rattle.alocs.specs.Cells.{Division}
 use Rattle.vset.specs.Members.{HasValue}
@@ -19,6 +23,7 @@ use Rattle.abs_semantics.specs.Resolve.{resolve}
 use Rattle.abs_semantics.specs.Touching.{touches_slot}
 use Rattle.abs_semantics.specs.Accesses.{read, write}
 use Rattle.abs_semantics.specs.Ranges.{read_range, write_range}
+use Rattle.abs_semantics.specs.Operands.{address, memory_value}
 use Rattle.abs_semantics.specs.Ownership.{IsKnown, IsRange, IsOwnedAmong}
 use Rattle.abs_semantics.specs.Stores.{with_memory, IsStored, HoldsNumber, HoldsRange}
 
@@ -125,3 +130,12 @@ WritesKeepForm =
 abbrev pub RangeWritesKeepForm : Type 0
 RangeWritesKeepForm =
     (image : Image) (a : AbsState) (d : Division) (p : ℕ) (v : Values) (len : Option ℕ) (w : RangeValue) → HasCanonical a → HasCanonical (write_range a d image p v len w)
+
+-- -- Operands in memory
+
+-- What memory gives at an address of an operand is a value of the operand in the abstract state.
+abbrev pub MemoryOperandsAreMembers : Type 0
+MemoryOperandsAreMembers =
+    (image : Image) (lane : ℕ) (a : AbsState) (p : ℕ) (s : State) (d : Division) (width : Width) (m : Mem) (at : ℕ) (words rest : List ℕ) (n : ℕ)
+    → IsKnown image lane a p s → HasCanonical a → at < 2 ^ 32 → HasValue lane (world_of s) at (address a m) → outcome (memory_read width m.gs at) s words ≡ Some (n, rest)
+    → HasValue lane (world_of s) n (memory_value a d p width m)

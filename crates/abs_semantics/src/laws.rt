@@ -1,6 +1,6 @@
 //! Laws of the definitions.
 
-ghost use Rattle.abs_semantics.specs.Laws.{BelowStandsForNoMore, ClearedCellsStandForMore, JoinedStandsForFirst, JoinedStandsForSecond, WidenedStandsForNew, WidenedStandsForOld, StartsHaveStates, ResolvedBytesAreOwned, ReadsAreMembers, RangeReadsAreMembers, WritesStandOn, RangeWritesStandOn, UnknownWritesStandOn, SlotsAreLeft, ReadsHaveForm, WritesKeepForm, RangeWritesKeepForm};
+ghost use Rattle.abs_semantics.specs.Laws.{BelowStandsForNoMore, ClearedCellsStandForMore, JoinedStandsForFirst, JoinedStandsForSecond, WidenedStandsForNew, WidenedStandsForOld, StartsHaveStates, ResolvedBytesAreOwned, ReadsAreMembers, RangeReadsAreMembers, WritesStandOn, RangeWritesStandOn, UnknownWritesStandOn, SlotsAreLeft, ReadsHaveForm, WritesKeepForm, RangeWritesKeepForm, MemoryOperandsAreMembers};
 
 /// What lies below an abstract state stands for no more states.
 pub fn below_stands_for_no_more()
@@ -87,4 +87,9 @@ pub fn writes_keep_form()
 /// So does a write to a range.
 pub fn range_writes_keep_form()
     ensures { RangeWritesKeepForm }
+{}
+
+/// What memory gives at an address of an operand is a value that the operand has in the abstract state.
+pub fn memory_operands_are_members()
+    ensures { MemoryOperandsAreMembers }
 {}
