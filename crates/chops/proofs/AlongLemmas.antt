@@ -158,3 +158,17 @@ inside_rest g rest others k back inside = subst (λ (l : List ℕ). All (λ n. n
 
 pub inside_some : (g : List FlowNode) (rest some : List ℕ) (k : ℕ) → some ≡ take k rest → All (λ n. n < length g) rest → All (λ n. n < length g) some
 inside_some g rest some k front inside = subst (λ (l : List ℕ). All (λ n. n < length g) l) (sym front) (All-take (λ n. n < length g) k rest inside)
+
+-- ---- nodes that are marked already
+
+pub marked_more : (targets nodes : List ℕ) (i : ℕ) (has_it : Bool) → IsTrue has_it ↔ Contains nodes (get_or targets i 0) → IsTrue has_it → ((j : ℕ) → j < i → Contains nodes (get_or targets j 0)) → (j : ℕ) → j < i + 1 → Contains nodes (get_or targets j 0)
+marked_more targets nodes i has_it has told before j lt =
+    ⊎_elim (λ (same : j ≡ i). subst (λ k. Contains nodes (get_or targets k 0)) (sym same) (has.0 told)) (λ other. let off : j ≢ i = other in before j (omega (arith, lt, off))) (cases_eq j i)
+
+pub marked_all : (targets nodes : List ℕ) (i : ℕ) → length targets ≤ i → ((j : ℕ) → j < i → Contains nodes (get_or targets j 0)) → (n : ℕ) → Contains targets n → Contains nodes n
+marked_all targets nodes i all before n among =
+    let within : among.0 < length targets = among.1 in
+    subst (λ m. Contains nodes m) (get_or_default targets among.0 0 n within ∙ among.2) (before among.0 (omega (arith, all, within)))
+
+pub already_there : (g : List FlowNode) (targets nodes : List ℕ) → ((n : ℕ) → Contains targets n → Contains nodes n) → (b n : ℕ) → Contains targets n → Controls g b n → Contains nodes b → Contains nodes n
+already_there g targets nodes there b n among controls has = there n among

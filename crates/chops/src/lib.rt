@@ -14,3 +14,6 @@ mod walker;
 
 pub use laws::{chop_laws, path_laws};
 pub use slices::{ChopAbsent, ChopScratch, chop, forward};
+
+#[cfg(test)]
+mod tests;

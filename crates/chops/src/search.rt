@@ -1,5 +1,5 @@
 //! Along edges and control, until nothing comes in.
-ghost use Rattle.std.specs.Prelude.{◌≡◌, ℕ, ◌<◌, ◌≤◌, ◌^◌, All, Contains, length, slice_index};
+ghost use Rattle.std.specs.Prelude.{◌≡◌, ℕ, ◌<◌, ◌≤◌, ◌^◌, All, Contains, IsTrue, length, slice_index};
 ghost use Rattle.flow_graph.specs.Rows.{IsBit};
 ghost use Rattle.control_walks.specs.ControlWalks.{Controls};
 ghost use Rattle.slicer.specs.Slicer.{Arrow, HasNodes, ListedEdge};
@@ -63,6 +63,18 @@ fn mark_bits(targets: &[u32], word: u64, queue: &mut Queue)
     }
 }
 
+// Whether all of these nodes are marked.
+fn are_marked(targets: &[u32], queue: &Queue) -> bool
+    ensures { IsTrue result → (n : ℕ) → Contains targets.now n → Contains queue.now.nodes n }
+{
+    for target in targets {
+        if !queue.has(*target) {
+            return false;
+        }
+    }
+    true
+}
+
 // Goes on to those of up to 64 nodes that a marked branch controls.
 fn follow_some(graph: &FlowGraph, targets: &[u32], walks: &mut WalkScratch, queue: &mut Queue)
     requires few { length targets.now ≤ 64 }
@@ -74,6 +86,9 @@ fn follow_some(graph: &FlowGraph, targets: &[u32], walks: &mut WalkScratch, queu
     ensures walks { walks.new.size ≡ walks.old.size }
     ensures size { queue.new.size ≡ queue.old.size }
 {
+    if are_marked(targets, queue) {
+        return;
+    }
     flood_all(graph, targets, walks);
     let rows = Rows {
         nodes: graph.nodes.as_slice(),
