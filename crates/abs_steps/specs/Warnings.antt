@@ -16,7 +16,7 @@ use Rattle.abs_semantics.specs.declared.parts.Reason.{Reason}
 use Rattle.abs_semantics.specs.declared.parts.Reason.TheVariants as reason
 use Rattle.abs_semantics.specs.States.{AbsState}
 use Rattle.abs_semantics.specs.Resolve.{Resolved, resolve, same_reason}
-use Rattle.abs_semantics.specs.Touching.{meeting}
+use Rattle.abs_semantics.specs.Touching.{touches_slot}
 use Rattle.abs_steps.specs.declared.accesses.Access.{Access}
 use Rattle.abs_steps.specs.declared.warnings.WarnName.{WarnName}
 use Rattle.abs_steps.specs.declared.warnings.WarnName.TheVariants as name
@@ -40,18 +40,9 @@ has_reason r v xs = list_any (λ (x : Access). list_any (same_reason r) (resolve
 
 -- -- Return slots
 
-abbrev pub slot_cell : RegionId → Cell
-slot_cell r = record { region = r; start = pos 0; end = pos 4 }
-
--- the place is in an activation, and touches its return slot by some member
-abbrev pub touches_slot : ℕ → Part → RegionId → Bool
-touches_slot len x (Frame p) = is_some (meeting x.si len (slot_cell (Frame p)))
-touches_slot len x (OldFrame p) = is_some (meeting x.si len (slot_cell (OldFrame p)))
-touches_slot len x _ = false
-
 abbrev pub writes_slot_in : List Part → Option ℕ → Bool
 writes_slot_in xs None = false
-writes_slot_in xs (Some len) = list_any (λ (x : Part). touches_slot len x x.region) xs
+writes_slot_in xs (Some len) = list_any (touches_slot len) xs
 
 abbrev pub writes_slot : View → List Access → Bool
 writes_slot v xs = list_any (λ (x : Access). writes_slot_in (resolved v x).entries x.len) xs
