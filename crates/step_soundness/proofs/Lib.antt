@@ -3,3 +3,5 @@ pub mod ConditionLaws
 pub mod ExtensionLaws
 pub mod PointerLaws
 pub mod CoreLaws
+pub mod OperandLaws
+pub mod StoreLaws

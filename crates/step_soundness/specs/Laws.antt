@@ -1,15 +1,17 @@
 -- That what an abstract step gives of values holds what the machine gives, and that an abstract state after a change of registers and
 -- flags stands for the machine's state after the same change. The laws are the project's own.
-use Rattle.std.specs.Prelude.{◌≡◌, ℕ, ◌+◌, ◌-◌, ◌/◌, ◌%◌, ◌^◌, ◌<◌, ◌≤◌, Bool, true, false, if◌then◌else◌, Some}
+use Rattle.std.specs.Prelude.{◌≡◌, ℕ, ◌+◌, ◌-◌, ◌/◌, ◌%◌, ◌^◌, ◌<◌, ◌≤◌, Bool, true, false, if◌then◌else◌, List, Some}
 use Rattle.image_map.specs.declared.image.Image.{Image}
 use Rattle.ia32_types.specs.declared.Mem.{Mem}
+use Rattle.ia32_types.specs.declared.Operand.{Operand}
 use Rattle.ia32_types.specs.declared.Width.{Width}
 use Rattle.ia32_types.specs.Operands.{IsWide, IsNarrow}
 use Rattle.ia32_semantics.specs.declared.flags.Flags.{Flags}
 use Rattle.ia32_semantics.specs.Alu.{sign}
 use Rattle.ia32_semantics.specs.Condition.{holds}
-use Rattle.ia32_semantics.specs.Effects.{Part, sets, turns as turns_flag, changed, with_part}
-use Rattle.ia32_semantics.specs.Operands.{bits, low_part}
+use Rattle.ia32_semantics.specs.Effects.{Part, sets, turns as turns_flag, stores, changed, effect_fits, with_part}
+use Rattle.ia32_semantics.specs.Operands.{bits, size, low_part, number_bytes, value}
+use Rattle.ia32_semantics.specs.Reading.{outcome}
 use Rattle.ia32_semantics.specs.Product.{extended}
 use Rattle.ia32_semantics.specs.State.{State}
 use Rattle.ia32_semantics.specs.Strings.{stepped as steps}
@@ -22,15 +24,16 @@ use Rattle.vset.specs.Members.{HasValue}
 use Rattle.vset.specs.Values.{Values, CanonicalValues}
 use Rattle.vset.specs.World.{World}
 use Rattle.abs_alu.specs.Operands.{known}
-use Rattle.abs_semantics.specs.States.{AbsState}
-use Rattle.abs_semantics.specs.Operands.{address, low_of, second_byte, with_part_value}
+use Rattle.abs_semantics.specs.States.{AbsState, HasCanonical}
+use Rattle.abs_semantics.specs.Ownership.{IsKnown}
+use Rattle.abs_semantics.specs.Operands.{address, operand_value, low_of, second_byte, with_part_value}
 use Rattle.abs_semantics.specs.StandsFor.{StandsFor, world_of, HoldsFact}
-use Rattle.abs_steps.specs.Effects.{puts, turns, frees, steers, learns, done}
+use Rattle.abs_steps.specs.Effects.{puts, turns, frees, steers, saves, learns, done}
 use Rattle.abs_steps.specs.Flags.{MayBe, allows, may_hold}
 use Rattle.abs_steps.specs.Results.{chosen_by, sign_of, truth_of, widened}
 use Rattle.abs_steps.specs.Rows.{pushed_at, risen}
 use Rattle.abs_steps.specs.Strings.{grown, stepped}
-use Rattle.step_soundness.specs.Terms.{IsPart, AreAllowed, RegistersHold, address_in}
+use Rattle.step_soundness.specs.Terms.{IsPart, IsOperand, AreAllowed, RegistersHold, address_in}
 
 -- -- Values
 
@@ -100,6 +103,14 @@ abbrev pub AddressesAreHeld : Type 0
 AddressesAreHeld =
     (lane : ℕ) (w : World) (a : AbsState) (s : State) (m : Mem) → RegistersHold lane w a s → m.scale < 2147483648 → m.disp < 4294967296 → HasValue lane w (address_in s m) (address a m)
 
+-- -- Operands
+
+-- what the machine reads of an operand
+abbrev pub OperandsAreHeld : Type 0
+OperandsAreHeld =
+    (image : Image) (lane : ℕ) (a : AbsState) (p : ℕ) (s : State) (d : Division) (width : Width) (o : Operand) (words rest : List ℕ) (n : ℕ) → IsKnown image lane a p s → HasCanonical a → IsOperand o
+    → outcome (value width o) s words ≡ Some (n, rest) → HasValue lane (world_of s) n (operand_value a d p width o)
+
 -- -- States
 
 -- a part of a register takes a number
@@ -131,3 +142,11 @@ abbrev pub LearnedFactsStand : Type 0
 LearnedFactsStand =
     (lane : ℕ) (d : Division) (image : Image) (p : ℕ) (a : AbsState) (s : State) (f : CmpFact) → StandsFor lane a s → HoldsFact lane s (Some f)
     → StandsFor lane (done d image p (learns f) a) s
+
+-- a number is stored at an address that a value has
+abbrev pub SavedValuesStand : Type 0
+SavedValuesStand =
+    (image : Image) (lane : ℕ) (a : AbsState) (p : ℕ) (s : State) (d : Division) (width : Width) (at n : ℕ) (v w : Values) → IsKnown image lane a p s → HasCanonical a
+    → CanonicalValues v → CanonicalValues w → at < 4294967296 → n < 2 ^ bits width → HasValue lane (world_of s) at v → HasValue lane (world_of s) n w
+    → effect_fits image s.memory (stores at (number_bytes (size width) n)) ≡ true
+    → StandsFor lane (done d image p (saves v (size width) w) a) (changed (stores at (number_bytes (size width) n)) s)

@@ -1,7 +1,9 @@
 -- What laws on steps speak of. The project's own.
-use Rattle.std.specs.Prelude.{◌≡◌, ℕ, ◌+◌, ◌*◌, ◌%◌, ◌<◌, true, Option, Some, None}
+use Rattle.std.specs.Prelude.{◌≡◌, ℕ, ◌+◌, ◌*◌, ◌%◌, ◌<◌, ◌≤◌, true, Option, Some, None}
 use Rattle.ia32_types.specs.declared.Mem.{Mem}
 use Rattle.ia32_types.specs.declared.Reg.{Reg}
+use Rattle.ia32_types.specs.declared.Operand.{Operand}
+use Rattle.ia32_types.specs.declared.Operand.TheVariants as operand
 use Rattle.ia32_types.specs.Numbers.{reg_number}
 use Rattle.ia32_semantics.specs.declared.flags.Flags.{Flags}
 use Rattle.ia32_semantics.specs.Effects.{Part, Whole, Word, Low, High}
@@ -40,3 +42,10 @@ register_or_zero s (Some r) = s.registers (reg_number r)
 -- the address of an operand in memory
 abbrev pub address_in : State → Mem → ℕ
 address_in s m = (register_or_zero s m.base + register_or_zero s m.index * m.scale + m.disp) % 4294967296
+
+-- an operand as bytes spell it: numbers are words, and a scale is 8 at most
+abbrev pub IsOperand : Operand → Type 0
+IsOperand (operand.Reg r) = Unit {0}
+IsOperand (operand.High r) = Unit {0}
+IsOperand (operand.Imm n) = n < 4294967296
+IsOperand (operand.Mem m) = (m.scale ≤ 8) × (m.disp < 4294967296)

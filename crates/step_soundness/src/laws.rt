@@ -1,6 +1,6 @@
 //! Laws of the definitions.
 
-ghost use Rattle.step_soundness.specs.Laws.{LowPartsAreHeld, SecondBytesAreHeld, WrittenPartsAreHeld, ExtensionsAreHeld, SignsAreHeld, ConditionsMayHold, TruthsAreHeld, ChoicesAreHeld, PushedPointersAreHeld, RisenPointersAreHeld, SteppedPointersAreHeld, GrownPointersAreHeld, AddressesAreHeld, WrittenRegistersStand, WrittenFlagsStand, FreedFlagsStand, WrittenDirectionsStand, LearnedFactsStand};
+ghost use Rattle.step_soundness.specs.Laws.{LowPartsAreHeld, SecondBytesAreHeld, WrittenPartsAreHeld, ExtensionsAreHeld, SignsAreHeld, ConditionsMayHold, TruthsAreHeld, ChoicesAreHeld, PushedPointersAreHeld, RisenPointersAreHeld, SteppedPointersAreHeld, GrownPointersAreHeld, AddressesAreHeld, OperandsAreHeld, WrittenRegistersStand, WrittenFlagsStand, FreedFlagsStand, WrittenDirectionsStand, LearnedFactsStand, SavedValuesStand};
 
 /// The low part of a word that a value-set has is one of its low parts.
 pub fn low_parts_are_held()
@@ -90,4 +90,14 @@ pub fn written_directions_stand()
 /// An abstract state that remembers a comparison stands for a state in which the flags are those of the comparison.
 pub fn learned_facts_stand()
     ensures { LearnedFactsStand }
+{}
+
+/// What the machine reads of an operand is among its values.
+pub fn operands_are_held()
+    ensures { OperandsAreHeld }
+{}
+
+/// After a number has been stored at an address, the abstract state in which a value that has the number was stored stands for the state.
+pub fn saved_values_stand()
+    ensures { SavedValuesStand }
 {}
