@@ -17,6 +17,7 @@ RULES = [
     (r'elf32|image_map|alocs|asi_cuts', r'ia32_\w+', 'files and memory know no instructions'),
     (r'call_strings|last_writers', r'ia32_\w+|image_map|elf32', 'nodes and last writers are numbers alone'),
     (r'strided|si_bits', r'ia32_\w+|image_map|elf32', 'intervals are numbers alone'),
+    (r'sweeps', r'ia32_\w+|image_map|elf32|call_strings|strided|vset|flow_graph', 'sweeps know places and states of any domain'),
     (r'round_core|round_slots', r'ia32_\w+|image_map|elf32|flow_graph|dep_graph|slicer',
      'the store of rounds holds values of any type'),
     (r'ia32_types|ia32_decode|ia32_print', r'elf32|image_map', 'instructions are bytes, wherever they stand'),

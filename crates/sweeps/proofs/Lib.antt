@@ -1,0 +1,10 @@
+pub mod PlaceLemmas
+pub mod ClosedLemmas
+pub mod StepLemmas
+pub mod SlotLemmas
+pub mod EnterLemmas
+pub mod SoundLemmas
+pub mod SweepLemmas
+pub mod CodeLemmas
+pub mod WholeLemmas
+pub mod ShrinkLemmas
