@@ -1,3 +1,4 @@
 pub mod Meaning
 pub mod Sweeps
 pub mod Kept
+pub mod Toy

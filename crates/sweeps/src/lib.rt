@@ -16,3 +16,6 @@ pub use closed::is_closed;
 pub use domain::Domain;
 pub use row::Row;
 pub use whole::{Swept, sweep_all};
+
+#[cfg(test)]
+mod tests;
