@@ -13,7 +13,7 @@ use Rattle.ia32_types.specs.declared.Instr.{Instr}
 use Rattle.ia32_semantics.specs.State.{State, AtByte}
 use Rattle.ia32_semantics.specs.Reading.{outcome, asks}
 use Rattle.ia32_semantics.specs.Effects.{Effect, sets, turns, stores, copies, changed, all_changed, effects_fit}
-use Rattle.ia32_semantics.specs.Outcome.{Outcome, Given, Move, moved, made, can_move, is_possible, is_in_stack, is_below, is_forgotten, is_given, LiesWell}
+use Rattle.ia32_semantics.specs.Outcome.{Outcome, Given, Move, moved, made, can_move, is_possible, is_in_stack, is_below, is_any, is_forgotten, is_given, LiesWell}
 use Rattle.ia32_semantics.specs.Rows.{row}
 use Rattle.ia32_semantics.specs.Step.{Step}
 use Rattle.ia32_semantics.proofs.EffectLemmas.{and_left, effects_map}
@@ -22,10 +22,7 @@ use Rattle.ia32_memory.specs.Changes.{cleared}
 use Rattle.ia32_memory.proofs.ShapeLaws.{same_open}
 use Rattle.ia32_memory.proofs.WrittenLaws.{cleared_maps}
 use Rattle.ia32_machine.specs.Opens.{KnowsOpen}
-use Rattle.ia32_plan.specs.Plans.{all_effects}
-use Rattle.ia32_plan.specs.Views.{has_read}
-use Rattle.ia32_machine.specs.declared.step.StepOut.{StepOut}
-use Rattle.ia32_machine.specs.Steps.{executes, IsExecuted, Faults, performed, gone_on}
+use Rattle.ia32_machine.specs.Steps.{executes, Faults, performed, gone_on}
 use Rattle.ia32_machine.proofs.WordLemmas.{more_words, used_words, asks_more}
 
 free_go : (mapped forgotten given : Bool) (old made_ : Option ℕ) → is_some old ≡ mapped → is_some made_ ≡ mapped → given ≡ false
@@ -50,17 +47,24 @@ none_given done a none = ap (λ (g : Option Given). is_given g a) none
 none_lies : (s : State) (done : Outcome) → done.given ≡ None → LiesWell s done.given
 none_lies s done none = subst (LiesWell s) (sym none) tt
 
-pub performed_is_executed : (image : Image) (i : Instr) (s after : State) (words rest : List ℕ) (done : Outcome) (out : StepOut)
-    → done.effects ≡ all_effects out.effects → ((a : ℕ) → has_read out.reads a ≡ asks (row i.op i) s words (AtByte a)) → after.eip ≡ out.next
+-- a step was made with the first of some words, and what may be any of memory is 0
+pub record IsStepped (image : Image) (i : Instr) (words left : List ℕ) (done : Outcome) (s after : State) : Type 0 where
+  pub used : List ℕ
+  pub are : words ≡ used ++ left
+  pub step : Step image (executes i used s after)
+  pub is : step.done ≡ done
+  pub zeros : (a : ℕ) → is_any step.done s a ≡ true → after.memory a ≡ Some 0
+  pub asked : (a : ℕ) → asks (row i.op i) s words (AtByte a) ≡ asks (row i.op i) s used (AtByte a)
+
+pub performed_is_stepped : (image : Image) (i : Instr) (s after : State) (words rest : List ℕ) (done : Outcome)
     → outcome (row i.op i) s words ≡ Some (done, rest) → is_possible image done s ≡ true → done.given ≡ None → after ≡ performed done s
-    → IsExecuted image i words out s after
-performed_is_executed image i s after words rest done out effects asked next is possible given after_is =
+    → IsStepped image i words rest done s after
+performed_is_stepped image i s after words rest done is possible given after_is =
     let u = used_words (row i.op i) s words rest done is in
     let maps = effects_map image done.effects s (and_left (effects_fit image s.memory done.effects) (can_move done.calls s.activations) possible) in
     let byte : (a : ℕ) → after.memory a ≡ (performed done s).memory a = λ a. ap (λ (t : State). t.memory a) after_is in
     record {
       used = u.used;
-      left = rest;
       are = u.are;
       step = record {
         done = done;
@@ -74,9 +78,8 @@ performed_is_executed image i s after words rest done out effects asked next is 
         };
       };
       zeros = λ a free. byte a ∙ free_go (is_some (s.memory a)) (is_forgotten done s a) (is_given done.given a) (s.memory a) ((made done s).memory a) refl (maps.same a) (none_given done a given) free;
-      effects = effects;
-      asked = λ a. sym (asked a ∙ ap (λ w. asks (row i.op i) s w (AtByte a)) u.are ∙ asks_more (row i.op i) s u.used rest [] done (AtByte a) u.gives_it);
-      next = next;
+      is = refl;
+      asked = λ a. ap (λ w. asks (row i.op i) s w (AtByte a)) u.are ∙ asks_more (row i.op i) s u.used rest [] done (AtByte a) u.gives_it;
     }
 
 -- the row's outcome with all words, where there is a step with the first of them

@@ -1,3 +1,4 @@
 pub mod Opens
 pub mod Steps
 pub mod Machines
+pub mod Touches

@@ -6,7 +6,7 @@ use Rattle.image_map.specs.Queries.{byte_at, is_in_segment}
 use Rattle.ia32_semantics.specs.State.{State, word_at}
 use Rattle.ia32_semantics.specs.Operands.{is_set}
 use Rattle.ia32_semantics.specs.Outcome.{is_in_stack}
-use Rattle.ia32_semantics.specs.CallModel.{IsLaidOut}
+use Rattle.ia32_semantics.specs.CallModel.{IsLaidOut, IsEntrySlot}
 use Rattle.ia32_memory.specs.Mapped.{Mapped, bytes_of, is_in_first}
 use Rattle.ia32_memory.specs.Changes.{with_zeros}
 use Rattle.ia32_plan.specs.declared.state.Core.{Core}
@@ -60,3 +60,8 @@ pub record IsStartMemory (image : Image) (memory : Mapped) : Type 0 where
 -- the state with a block of zeros more
 abbrev pub with_new_block : Block → State → State
 with_new_block block s = record s { memory = with_zeros s.memory block.base block.size; blocks = s.blocks ++ block ∷ [] }
+
+-- a machine whose entry's return slot lies as it should, and that was given no block
+pub record HasNoBlocks (m : Machine) : Type 0 where
+  pub slot : IsEntrySlot m.slot
+  pub blocks : m.blocks.items ≡ []

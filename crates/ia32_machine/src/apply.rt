@@ -160,7 +160,7 @@ fn step(down: bool, width: Width) -> u32
 }
 
 /// The address so many elements behind another.
-fn stepped(down: bool, width: Width, count: u32, address: u32) -> u32
+pub(crate) fn stepped(down: bool, width: Width, count: u32, address: u32) -> u32
     ensures { result ≡ stepped_spec down (size width) count address }
 {
     address.wrapping_add(count.wrapping_mul(step(down, width)))

@@ -7,8 +7,10 @@ mod machine;
 mod step;
 #[cfg(test)]
 mod tests;
+mod touched;
 
 pub use apply::{bytes_in, perform, perform_all};
 pub use fits::{all_fit, entry_fits};
 pub use machine::Machine;
-pub use step::{Choice, StepError, StepOut, can_move, go_on, move_calls};
+pub use step::{Choice, StepError, can_move, go_on, move_calls};
+pub use touched::{StepOut, Touched};

@@ -1,7 +1,8 @@
 //! One step of the machine: an instruction is planned, and what it will do is done where all of it can be.
 
-ghost use Rattle.std.specs.Prelude.{◌≡◌, Err, IfOk, OnOk, OnErr, reverse};
+ghost use Rattle.std.specs.Prelude.{◌≡◌, Err, IfOk, OnOk, OnErr, length, reverse};
 ghost use Rattle.image_map.specs.declared.image.Image.{Image};
+ghost use Rattle.image_map.specs.Whole.{IsImage};
 ghost use Rattle.ia32_semantics.specs.Outcome.{can_move as can_move_spec, moved};
 ghost use Rattle.ia32_memory.specs.Mapped.{is_in_first, shapes};
 ghost use Rattle.ia32_plan.specs.Plans.{move_of};
@@ -12,23 +13,16 @@ ghost use Rattle.ia32_machine.specs.Steps.{IsExecuted, Faults, gone_on};
 use crate::apply::perform_all;
 use crate::fits::all_fit;
 use crate::machine::Machine;
-use ia32_plan::{Calls, Core, Effects, Reads, Words, plan};
+use crate::touched::{StepOut, places};
+use ia32_plan::{Calls, Core, Words, plan};
 use ia32_types::Instr;
 use image_map::Activation;
-use std::alloc::AllocError;
+use std::alloc::{AllocError, Global};
 
 /// Words that stand for all that may be any in a step.
 #[derive(Clone, Copy, Debug)]
 pub struct Choice {
     pub words: [u32; 8],
-}
-
-/// What a step did: what it read of memory, what it changed, and where control went.
-#[derive(Clone, Copy, Debug)]
-pub struct StepOut {
-    pub reads: Reads,
-    pub effects: Effects,
-    pub next: u32,
 }
 
 /// Why no step was made.
@@ -39,6 +33,11 @@ pub enum StepError {
     /// Memory for the machine itself lacks.
     Memory,
 }
+
+/// A choice has eight words.
+fn are_eight(words: &[u32; 8])
+    ensures { length words.now ≡ 8 }
+{}
 
 /// Whether an activation is there that ends, where one does.
 pub fn can_move(calls: &Calls, frames: &[Activation]) -> bool
@@ -82,12 +81,13 @@ pub fn go_on(core: &mut Core, place: u32, forgets: Option<u32>)
 
 impl Machine {
     /// Executes an instruction, with words of choice for what may be any in it. On an error nothing has changed.
-    pub fn step(&mut self, i: &Instr, choice: &Choice) -> Result<StepOut, StepError>
-        ensures executed { (image : Image) → RunsImage image self.old → IfOk result (λ out. IsExecuted image i.now choice.now.words out (state_of self.old) (state_of self.new)) }
+    pub fn step(&mut self, alloc: Global, i: &Instr, choice: &Choice) -> Result<StepOut, StepError>
+        ensures executed { (image : Image) → IsImage image → RunsImage image self.old → IfOk result (λ out. IsExecuted image i.now choice.now.words out (state_of self.old) (state_of self.new)) }
         ensures runs { (image : Image) → RunsImage image self.old → RunsImage image self.new }
         ensures fault { (image : Image) → RunsImage image self.old → result ≡ Err StepError.Fault → Faults image i.now choice.now.words (state_of self.old) }
         ensures unchanged { OnErr result ((self.new.core ≡ self.old.core) × (state_of self.new ≡ state_of self.old)) }
     {
+        are_eight(&choice.words);
         let mut words = Words::new(choice.words);
         let plan = match plan(&self.core, i, &mut words) {
             None => return Err(StepError::Fault),
@@ -99,16 +99,16 @@ impl Machine {
         if !can_move(&plan.calls, self.frames.as_slice()) {
             return Err(StepError::Fault);
         }
+        let out = match places(alloc, &self.core, i, &words, &plan) {
+            Err(_) => return Err(StepError::Memory),
+            Ok(out) => out,
+        };
         match move_calls(&plan.calls, &mut self.frames) {
             Err(_) => return Err(StepError::Memory),
             Ok(()) => {}
         }
         perform_all(&mut self.core, &plan.effects);
         go_on(&mut self.core, plan.place, plan.forgets);
-        Ok(StepOut {
-            reads: words.reads(),
-            effects: plan.effects,
-            next: plan.place,
-        })
+        Ok(out)
     }
 }
