@@ -1,0 +1,5 @@
+pub mod DependenceLemmas
+pub mod WriterLemmas
+pub mod KnownLemmas
+pub mod TakesLemmas
+pub mod ActLemmas

@@ -1,0 +1,5 @@
+pub mod LastWrites
+pub mod Writers
+pub mod Choices
+pub mod Traces
+pub mod Acts
