@@ -1,7 +1,7 @@
 mod CoreLemmas
 pub mod FitLemmas
 mod WordLemmas
-mod StepLemmas
+pub mod StepLemmas
 mod StartLemmas
 mod BlockLemmas
 mod PerformLemmas

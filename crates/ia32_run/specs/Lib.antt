@@ -3,3 +3,4 @@ pub mod Writers
 pub mod Choices
 pub mod Traces
 pub mod Acts
+pub mod Answers

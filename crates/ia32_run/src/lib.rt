@@ -2,9 +2,11 @@
 #![tactic(auto)]
 
 mod acts;
+mod answers;
 mod laws;
 mod writers;
 
 pub use acts::{Act, act_at};
+pub use answers::return_with;
 pub use laws::sources_are_dependences;
 pub use writers::Writers;
