@@ -5,3 +5,4 @@ pub mod PointerLaws
 pub mod CoreLaws
 pub mod OperandLaws
 pub mod StoreLaws
+pub mod MoveLaws

@@ -35,7 +35,7 @@ use Rattle.step_soundness.proofs.PointerLaws.{address_has}
 
 -- -- What the machine reads
 
-address_outcome : {A : Type 0} (m : Mem) (f : ℕ → Reading A) (s : State) (words : List ℕ) → outcome (address_reading m >>= f) s words ≡ outcome (f (address_in s m)) s words
+pub address_outcome : {A : Type 0} (m : Mem) (f : ℕ → Reading A) (s : State) (words : List ℕ) → outcome (address_reading m >>= f) s words ≡ outcome (f (address_in s m)) s words
 unfolding address_reading register_reading
 address_outcome m f s words =
     outcome_bind (address_reading m) f s words
@@ -94,7 +94,7 @@ read_as_has lane w W16 v n lt has = by (only_number v) refl
 read_as_has lane w D32 v n lt has = has
 
 module _ (image : Image) (lane : ℕ) (a : AbsState) (p : ℕ) (s : State) (d : Division) (known_ : IsKnown image lane a p s) (form : HasCanonical a) where
-  registers_hold : RegistersHold lane (world_of s) a s
+  pub registers_hold : RegistersHold lane (world_of s) a s
   registers_hold = record { held = known_.stands.registers; form = form.registers; sized = known_.whole.laid_out.sized.registers }
 
   number_below : (width : Width) (at : ℕ) (bytes : List ℕ) → bytes_at s.memory at (size width) ≡ Some bytes → little_endian bytes < 2 ^ bits width

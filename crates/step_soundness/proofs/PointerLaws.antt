@@ -203,3 +203,9 @@ module _ (lane : ℕ) (world : World) (a : AbsState) (s : State) (r : RegistersH
       add_has lane world base (index % 4294967296) (base_value a m.base) (index_value a m.index m.scale) (omega arith) (base_form m.base) (index_form m.index m.scale less) (base_has m.base) (index_has m.index m.scale less) in
       subst (λ k. HasValue lane world k (address a m)) whole
       (add_has lane world ((base + index % 4294967296) % 4294967296) m.disp (add (base_value a m.base) (index_value a m.index m.scale)) (word_number m.disp) fits both_form (number_canonical (concrete.number m.disp) (number_fits m.disp fits)) both (word_has lane world m.disp fits))
+
+  pub address_form : (m : Mem) → m.scale < 2147483648 → m.disp < 4294967296 → CanonicalValues (address a m)
+  unfolding address
+  address_form m less fits =
+      add_values_canonical (add (base_value a m.base) (index_value a m.index m.scale)) (word_number m.disp)
+      (add_values_canonical (base_value a m.base) (index_value a m.index m.scale) (base_form m.base) (index_form m.index m.scale less)) (number_canonical (concrete.number m.disp) (number_fits m.disp fits))

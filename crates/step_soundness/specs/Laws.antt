@@ -5,12 +5,12 @@ use Rattle.image_map.specs.declared.image.Image.{Image}
 use Rattle.ia32_types.specs.declared.Mem.{Mem}
 use Rattle.ia32_types.specs.declared.Operand.{Operand}
 use Rattle.ia32_types.specs.declared.Width.{Width}
-use Rattle.ia32_types.specs.Operands.{IsWide, IsNarrow}
+use Rattle.ia32_types.specs.Operands.{IsWide, IsNarrow, IsTarget}
 use Rattle.ia32_semantics.specs.declared.flags.Flags.{Flags}
 use Rattle.ia32_semantics.specs.Alu.{sign}
 use Rattle.ia32_semantics.specs.Condition.{holds}
-use Rattle.ia32_semantics.specs.Effects.{Part, sets, turns as turns_flag, stores, changed, effect_fits, with_part}
-use Rattle.ia32_semantics.specs.Operands.{bits, size, low_part, number_bytes, value}
+use Rattle.ia32_semantics.specs.Effects.{Part, Effect, sets, turns as turns_flag, stores, changed, all_changed, effect_fits, effects_fit, with_part}
+use Rattle.ia32_semantics.specs.Operands.{bits, size, low_part, number_bytes, value, store as machine_store}
 use Rattle.ia32_semantics.specs.Reading.{outcome}
 use Rattle.ia32_semantics.specs.Product.{extended}
 use Rattle.ia32_semantics.specs.State.{State}
@@ -28,10 +28,11 @@ use Rattle.abs_semantics.specs.States.{AbsState, HasCanonical}
 use Rattle.abs_semantics.specs.Ownership.{IsKnown}
 use Rattle.abs_semantics.specs.Operands.{address, operand_value, low_of, second_byte, with_part_value}
 use Rattle.abs_semantics.specs.StandsFor.{StandsFor, world_of, HoldsFact}
-use Rattle.abs_steps.specs.Effects.{puts, turns, frees, steers, saves, learns, done}
+use Rattle.abs_steps.specs.Effects.{puts, turns, frees, steers, saves, learns, done, all_done}
 use Rattle.abs_steps.specs.Flags.{MayBe, allows, may_hold}
 use Rattle.abs_steps.specs.Results.{chosen_by, sign_of, truth_of, widened}
-use Rattle.abs_steps.specs.Rows.{pushed_at, risen}
+use Rattle.abs_steps.specs.Rows.{pushed_at, risen, view_of}
+use Rattle.abs_steps.specs.Views.{store}
 use Rattle.abs_steps.specs.Strings.{grown, stepped}
 use Rattle.step_soundness.specs.Terms.{IsPart, IsOperand, AreAllowed, RegistersHold, address_in}
 
@@ -150,3 +151,11 @@ SavedValuesStand =
     → CanonicalValues v → CanonicalValues w → at < 4294967296 → n < 2 ^ bits width → HasValue lane (world_of s) at v → HasValue lane (world_of s) n w
     → effect_fits image s.memory (stores at (number_bytes (size width) n)) ≡ true
     → StandsFor lane (done d image p (saves v (size width) w) a) (changed (stores at (number_bytes (size width) n)) s)
+
+-- a number is stored into an operand, as the machine stores it
+abbrev pub StoredOperandsStand : Type 0
+StoredOperandsStand =
+    (image : Image) (lane : ℕ) (a : AbsState) (p : ℕ) (s : State) (d : Division) (width : Width) (o : Operand) (n : ℕ) (w : Values) (words rest : List ℕ) (effects : List Effect)
+    → IsKnown image lane a p s → HasCanonical a → IsTarget width o → IsOperand o → n < 2 ^ bits width → CanonicalValues w → HasValue lane (world_of s) n w
+    → outcome (machine_store width o n) s words ≡ Some (effects, rest) → effects_fit image s.memory effects ≡ true
+    → StandsFor lane (all_done d image p (store (view_of a d p) width o w) a) (all_changed effects s)

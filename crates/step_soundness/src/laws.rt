@@ -1,6 +1,6 @@
 //! Laws of the definitions.
 
-ghost use Rattle.step_soundness.specs.Laws.{LowPartsAreHeld, SecondBytesAreHeld, WrittenPartsAreHeld, ExtensionsAreHeld, SignsAreHeld, ConditionsMayHold, TruthsAreHeld, ChoicesAreHeld, PushedPointersAreHeld, RisenPointersAreHeld, SteppedPointersAreHeld, GrownPointersAreHeld, AddressesAreHeld, OperandsAreHeld, WrittenRegistersStand, WrittenFlagsStand, FreedFlagsStand, WrittenDirectionsStand, LearnedFactsStand, SavedValuesStand};
+ghost use Rattle.step_soundness.specs.Laws.{LowPartsAreHeld, SecondBytesAreHeld, WrittenPartsAreHeld, ExtensionsAreHeld, SignsAreHeld, ConditionsMayHold, TruthsAreHeld, ChoicesAreHeld, PushedPointersAreHeld, RisenPointersAreHeld, SteppedPointersAreHeld, GrownPointersAreHeld, AddressesAreHeld, OperandsAreHeld, WrittenRegistersStand, WrittenFlagsStand, FreedFlagsStand, WrittenDirectionsStand, LearnedFactsStand, SavedValuesStand, StoredOperandsStand};
 
 /// The low part of a word that a value-set has is one of its low parts.
 pub fn low_parts_are_held()
@@ -100,4 +100,9 @@ pub fn operands_are_held()
 /// After a number has been stored at an address, the abstract state in which a value that has the number was stored stands for the state.
 pub fn saved_values_stand()
     ensures { SavedValuesStand }
+{}
+
+/// The same where a number has been stored into an operand, as the machine stores it: a register, a part of one, or memory.
+pub fn stored_operands_stand()
+    ensures { StoredOperandsStand }
 {}
