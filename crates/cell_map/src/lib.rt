@@ -8,5 +8,5 @@ mod place;
 mod regions;
 
 pub use map::CellMap;
-pub use merge::{held_by, of_both};
+pub use merge::{has_length, held_by, of_both};
 pub use regions::{Regions, Rule, Side, has_number, known_number};

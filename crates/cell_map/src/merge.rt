@@ -78,7 +78,8 @@ fn behind(start: i32, len: u32) -> i64
     i64::from(start) + i64::from(len)
 }
 
-pub(crate) fn has_length(len: u32, cell: &Cell) -> bool
+/// Whether a cell has so many bytes.
+pub fn has_length(len: u32, cell: &Cell) -> bool
     ensures { result ≡ has_length_spec len cell.now }
 {
     is_same(i64::from(cell.end), behind(cell.start, len))
