@@ -3,3 +3,4 @@ pub mod WriterLemmas
 pub mod KnownLemmas
 pub mod TakesLemmas
 pub mod ActLemmas
+pub mod FaultLemmas
