@@ -8,6 +8,8 @@ mod extensions;
 mod operations;
 mod pointers;
 mod quotients;
+#[cfg(test)]
+mod tests;
 
 pub use alignment::aligned_or;
 pub use conditions::{chosen_by, truth_of};
