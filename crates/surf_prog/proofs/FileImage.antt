@@ -19,7 +19,7 @@ use Rattle.command_words.specs.declared.line.Entry.{Entry}
 use Rattle.command_words.specs.declared.line.Entry.TheVariants as entries
 use Rattle.surf_prog.specs.Straight.Bytes.{most_code, code_of, HoldsCode}
 use Rattle.surf_prog.specs.Entry.{entry_place, Enters, LacksEntry}
-use Rattle.surf_prog.proofs.FetchLaws.{held_code}
+use Rattle.surf_prog.proofs.CodeLaws.{held_code}
 use Rattle.surf_prog.proofs.SegmentLaws.{flagged_below}
 
 -- -- A file with an image passes each check

@@ -1,6 +1,6 @@
 pub mod OneBegins
 pub mod SegmentLaws
-pub mod FetchLaws
+pub mod CodeLaws
 pub mod ListingLaws
 pub mod FileImage
 pub mod RefusalLaws

@@ -9,7 +9,7 @@ use Rattle.image_map.specs.declared.image.Image.{Image}
 use Rattle.ia32_types.specs.declared.Instr.{Instr}
 use Rattle.surf_prog.specs.Listing.{StandsAt, Follow, instr_line, listing_text, IsListing, IsTheListing}
 use Rattle.ia32_semantics.specs.Fetch.{fetch_window, IsFetched}
-use Rattle.surf_prog.proofs.FetchLaws.{fetched_begins}
+use Rattle.ia32_fetch.proofs.FetchLaws.{fetched_begins}
 use Rattle.surf_prog.proofs.OneBegins.{one_begins}
 
 -- The lines so far, of instructions behind which stands what follows at a place.

@@ -4,7 +4,7 @@ ghost use Rattle.std.specs.Fmt.{decimal};
 ghost use Rattle.ia32_types.specs.declared.Instr.{Instr};
 ghost use Rattle.surf_prog.specs.Listing.{StandsAt, instr_line, IsTheListing};
 
-use crate::fetch::fetched;
+use ia32_fetch::fetched;
 use ia32_print::print_instr;
 use ia32_types::Instr;
 use image_map::Image;

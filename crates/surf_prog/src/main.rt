@@ -3,7 +3,6 @@
 
 mod adapters;
 mod entry;
-mod fetch;
 mod laws;
 mod line;
 mod list;

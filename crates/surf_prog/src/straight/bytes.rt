@@ -3,8 +3,8 @@ ghost use Rattle.std.specs.Prelude.{◌≡◌, IfOk};
 ghost use Rattle.image_map.specs.Whole.{IsImage};
 ghost use Rattle.surf_prog.specs.Straight.Bytes.{code_of as code_bytes, HoldsCode};
 
-use crate::fetch::{LONGEST_INSTRUCTION, code_byte};
 use crate::straight::code::MOST_INSTRUCTIONS;
+use ia32_fetch::{LONGEST_INSTRUCTION, code_byte};
 use image_map::Image;
 use std::alloc::{AllocError, Global};
 

@@ -1,6 +1,7 @@
 use Rattle.std.proofs.Common.{◌≡◌, ◌+◌, length, Some, None, inl, inr, sym, ◌∙◌, ap, rules, arith}
 use Rattle.ia32_semantics.specs.Fetch.{code_byte}
-use Rattle.surf_prog.proofs.FetchLaws.{read_pushed, read_all, held_code}
+use Rattle.ia32_fetch.proofs.FetchLaws.{read_pushed, read_all}
+use Rattle.surf_prog.proofs.CodeLaws.{held_code}
 use Rattle.surf_prog.proofs.straight.bytes.code_of.Goals as goal
 
 pub returns-in-None-clause-code : goal.returns-in-None-clause-code

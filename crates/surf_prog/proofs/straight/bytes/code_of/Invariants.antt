@@ -1,5 +1,5 @@
 use Rattle.std.proofs.Common.{◌-◌, ◌≤◌, length}
-use Rattle.surf_prog.proofs.FetchLaws.{IsRead}
+use Rattle.ia32_fetch.proofs.FetchLaws.{IsRead}
 use Rattle.surf_prog.proofs.straight.bytes.code_of.Given as goal
 
 abbrev pub invariant-bytes : goal.invariant-bytes
