@@ -3,11 +3,13 @@ ghost use Rattle.std.specs.Prelude.{◌≡◌, ◌∷◌, ◌++◌, take, IfOk};
 ghost use Rattle.std.specs.Cmp.{on_equiv, partial_equiv_from_equiv};
 ghost use Rattle.std.specs.Cmp.Lexicographic.{nat_list_eq_equiv};
 ghost use Rattle.std.specs.Hash as fed;
-ghost use Rattle.call_strings.specs.Nodes.{pushed, same_node, numbers_of};
+ghost use Rattle.std.specs.Ordering.{is_lt};
+ghost use Rattle.call_strings.specs.Nodes.{pushed, same_node, numbers_of, place_cmp, node_before};
 ghost use Rattle.call_strings.specs.NodeKeys.{same_hash};
 
 use item_list::Items;
 use std::alloc::AllocError;
+use std::cmp::Ordering;
 use std::hash::{Hash, Hasher};
 
 /// The procedure that runs, by its address, and the newest sites of the calls that led to it, the newest first.
@@ -62,6 +64,33 @@ impl Node {
             context: self.context.copied()?,
             at: self.at,
         })
+    }
+
+    // The order of two nodes of one procedure.
+    fn is_place_before(&self, other: &Node) -> bool
+        ensures { result ≡ is_lt (place_cmp self.now other.now) }
+    {
+        match self
+            .context
+            .sites
+            .as_slice()
+            .cmp(other.context.sites.as_slice())
+        {
+            Ordering::Less => true,
+            Ordering::Equal => self.at < other.at,
+            Ordering::Greater => false,
+        }
+    }
+
+    /// Whether this node stands before another: by procedure, then by sites, then by address.
+    pub fn is_before(&self, other: &Node) -> bool
+        ensures { result ≡ node_before self.now other.now }
+    {
+        if self.context.proc == other.context.proc {
+            self.is_place_before(other)
+        } else {
+            self.context.proc < other.context.proc
+        }
     }
 }
 
