@@ -2,6 +2,7 @@
 
 use Rattle.std.proofs.Common.{◌≡◌, ℕ, ◌||◌, Bool, true, false, cond, refl, sym, ◌∙◌, ap}
 use Rattle.std.specs.Int.RustNames.{bit_or}
+use Rattle.std.proofs.Math.Bool.{or-false}
 use Rattle.ia32_types.specs.declared.Flag.{Flag}
 use Rattle.ia32_types.specs.declared.Flag.TheVariants.{Cf, Pf, Zf, Sf, Of, Df}
 use Rattle.ia32_types.specs.Numbers.{is_same_flag}
@@ -22,13 +23,6 @@ itself : (b : Bool) → cond b true false ≡ b
 itself true = refl
 itself false = refl
 
-or_none : (b : Bool) → (b || false) ≡ b
-or_none true = refl
-or_none false = refl
-
-either : (a b c d : Bool) → a ≡ c → b ≡ d → (a || b) ≡ (c || d)
-either a b c d p q = ap (λ x. x || b) p ∙ ap (λ y. c || y) q
-
 no_bit : (x : Flag) → has_bit 0 (flag_bit x) ≡ false
 no_bit = each_flag (λ x. has_bit 0 (flag_bit x) ≡ false) refl refl refl refl refl refl
 
@@ -44,7 +38,7 @@ has_one false g x = no_bit x ∙ by_test (is_same_flag x g)
     by_test false = refl
 
 has_more : (t : Bool) (g x : Flag) (rest : ℕ) (r : Bool) → has_bit rest (flag_bit x) ≡ r → has_bit (bit_or (bit_if t g) rest) (flag_bit x) ≡ (cond (is_same_flag x g) t false || r)
-has_more t g x rest r is = has_flag_of_both (bit_if t g) rest x ∙ either _ _ _ _ (has_one t g x) is
+has_more t g x rest r is = has_flag_of_both (bit_if t g) rest x ∙ (λ i. has_one t g x i || is i)
 
 -- a flag is in the set where it passes the test
 pub flag_set_has : (has : Flag → Bool) (x : Flag) → has_flag (flag_set has) x ≡ has x
@@ -53,7 +47,7 @@ flag_set_has has x =
     has_more (has Cf) Cf x _ _ (has_more (has Pf) Pf x _ _ (has_more (has Zf) Zf x _ _ (has_more (has Sf) Sf x _ _ (has_more (has Of) Of x _ _ (has_one (has Df) Df x)))))
     ∙ each_flag
     (λ x. (cond (is_same_flag x Cf) (has Cf) false || (cond (is_same_flag x Pf) (has Pf) false || (cond (is_same_flag x Zf) (has Zf) false || (cond (is_same_flag x Sf) (has Sf) false || (cond (is_same_flag x Of) (has Of) false || cond (is_same_flag x Df) (has Df) false))))) ≡ has x)
-    (or_none (has Cf)) (or_none (has Pf)) (or_none (has Zf)) (or_none (has Sf)) (or_none (has Of)) refl x
+    (or-false (has Cf)) (or-false (has Pf)) (or-false (has Zf)) (or-false (has Sf)) (or-false (has Of)) refl x
 
 -- -- One flag
 

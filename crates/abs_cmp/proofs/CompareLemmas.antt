@@ -2,7 +2,7 @@
 
 use Rattle.std.proofs.Common.{◌≡◌, ℕ, ◌+◌, ◌-◌, ◌/◌, ◌%◌, ◌==◌, ◌<◌, ◌≤◌, ◌&&◌, ◌||◌, Bool, true, false, not, ℤ, pos, refl, sym, ◌∙◌, ap, subst, ⊎_elim, arith}
 use Rattle.std.specs.Prelude.{◌≤ℤ◌, ◌<ℤ◌, nat_lt}
-use Rattle.std.proofs.lemmas.Bool.{cond_both, cond-true, cond-false, eqb-true, eqb-false, eq-eqb, ne_eqb, ltb-true, ltb-false, or_cases, or_parts}
+use Rattle.std.proofs.lemmas.Bool.{cond_both, cond-true, cond-false, eqb-true, eqb-false, eq-eqb, ne_eqb, ltb-true, ltb-false, or_cases, or_parts, not-true}
 use Rattle.std.proofs.lemmas.Int.{ints}
 use Rattle.strided.specs.Concrete.{signed}
 use Rattle.strided.specs.Interval.{Interval, IsMember, IsCanonical}
@@ -19,10 +19,6 @@ use Rattle.abs_cmp.proofs.SignLemmas.{IsRead, is_read, IsApart, is_apart, IsLess
 use Rattle.abs_cmp.proofs.RowLemmas.{Keeps, equal_keeps, less_than_keeps, at_most_than_keeps, at_least_than_keeps, greater_than_keeps, below_keeps, not_above_keeps, not_below_keeps, above_keeps, not_equal_keeps, negative_keeps, not_negative_keeps}
 
 -- -- Conditions and their opposites
-
-not_true : (b : Bool) → not b ≡ true → b ≡ false
-not_true true e = cc
-not_true false e = refl
 
 not_false : (b : Bool) → not b ≡ false → b ≡ true
 not_false true e = refl
@@ -210,17 +206,17 @@ module _ (n k : ℕ) (ln : n < 4294967296) (lk : k < 4294967296) (f : Flags) (gi
         let v : ℤ = signed (pos n) in
         let w : ℤ = signed (pos k) in
         cond_both (c == 2) _ _ (Keeps v) (λ e. below_keeps v x form m w bound other (kept_below (is_below (at 2 e))))
-        (λ _. cond_both (c == 3) _ _ (Keeps v) (λ e. not_below_keeps v x form m w bound other (kept_not_below (is_not_below (not_true f.cf (at 3 e)))))
+        (λ _. cond_both (c == 3) _ _ (Keeps v) (λ e. not_below_keeps v x form m w bound other (kept_not_below (is_not_below (not-true f.cf (at 3 e)))))
         (λ _. cond_both (c == 4) _ _ (Keeps v) (λ e. equal_keeps v x form m w bound other (equal (at 4 e)))
-        (λ _. cond_both (c == 5) _ _ (Keeps v) (λ e. not_equal_keeps v x form m w bound other (not_equal (not_true f.zf (at 5 e))))
+        (λ _. cond_both (c == 5) _ _ (Keeps v) (λ e. not_equal_keeps v x form m w bound other (not_equal (not-true f.zf (at 5 e))))
         (λ _. cond_both (c == 6) _ _ (Keeps v) (λ e. not_above_keeps v x form m w bound other (kept_not_above (not_above_word (at 6 e))))
-        (λ _. cond_both (c == 7) _ _ (Keeps v) (λ e. above_keeps v x form m w bound other (kept_above (above_word (not_true (f.cf || f.zf) (at 7 e)))))
+        (λ _. cond_both (c == 7) _ _ (Keeps v) (λ e. above_keeps v x form m w bound other (kept_above (above_word (not-true (f.cf || f.zf) (at 7 e)))))
         (λ _. cond_both (c == 8) _ _ (Keeps v) (λ e. negative_keeps v x form m w bound other (kept_negative (at 8 e)))
-        (λ _. cond_both (c == 9) _ _ (Keeps v) (λ e. not_negative_keeps v x form m w bound other (kept_not_negative (not_true f.sf (at 9 e))))
+        (λ _. cond_both (c == 9) _ _ (Keeps v) (λ e. not_negative_keeps v x form m w bound other (kept_not_negative (not-true f.sf (at 9 e))))
         (λ _. cond_both (c == 12) _ _ (Keeps v) (λ e. less_than_keeps v x form m w bound other (signed_less (at 12 e)))
-        (λ _. cond_both (c == 13) _ _ (Keeps v) (λ e. at_least_than_keeps v x form m w bound other (signed_not_less (not_true (is_less f) (at 13 e))))
+        (λ _. cond_both (c == 13) _ _ (Keeps v) (λ e. at_least_than_keeps v x form m w bound other (signed_not_less (not-true (is_less f) (at 13 e))))
         (λ _. cond_both (c == 14) _ _ (Keeps v) (λ e. at_most_than_keeps v x form m w bound other (less_or_equal (at 14 e)))
-        (λ _. cond_both (c == 15) _ _ (Keeps v) (λ e. greater_than_keeps v x form m w bound other (greater (not_true (f.zf || is_less f) (at 15 e))))
+        (λ _. cond_both (c == 15) _ _ (Keeps v) (λ e. greater_than_keeps v x form m w bound other (greater (not-true (f.zf || is_less f) (at 15 e))))
         (λ _. m))))))))))))
       where
         at : (number : ℕ) → (c == number) ≡ true → holds number f ≡ true

@@ -1,11 +1,11 @@
 -- What each row keeps, where the number lies as the condition says.
 
-use Rattle.std.proofs.Common.{◌≡◌, ◌&&◌, true, cond, ℤ, pos, ◌+ℤ◌, Option, Some, None, arith}
+use Rattle.std.proofs.Common.{◌≡◌, ◌&&◌, cond, ℤ, pos, ◌+ℤ◌, Option, Some, None, arith}
 use Rattle.std.specs.Prelude.{◌≤ℤ◌, ◌<ℤ◌, ◌-ℤ◌, IsSomeAnd}
 use Rattle.std.specs.Ordering.{int_eq}
 use Rattle.std.proofs.lemmas.Bool.{cond_both, and_parts}
-use Rattle.std.proofs.lemmas.Bool.Decides.{Decides-int_eq}
 use Rattle.std.proofs.lemmas.Int.{ints}
+use Rattle.std.specs.Cmp.{signed_Decides}
 use Rattle.strided.specs.Interval.{Interval, IsMember, IsCanonical, least, greatest}
 use Rattle.strided.specs.Operations.{clip}
 use Rattle.strided.proofs.MemberLemmas.{member_above, int_le_true}
@@ -15,9 +15,6 @@ use Rattle.abs_cmp.specs.Rows.{less, at_most, at_least, greater, is_natural, bel
 -- v is left
 abbrev pub Keeps : ℤ → Option Interval → Type 0
 Keeps v r = IsSomeAnd r (λ (c : Interval). IsMember v c)
-
-same_int : (x y : ℤ) → int_eq x y ≡ true → x ≡ y
-same_int x y e = (Decides-int_eq x y).0 e
 
 module _ (v : ℤ) (x : Interval) (form : IsCanonical x) (m : IsMember v x) where
   low : least ≤ℤ v
@@ -30,7 +27,7 @@ module _ (v : ℤ) (x : Interval) (form : IsCanonical x) (m : IsMember v x) wher
   unfolding less
   less_keeps z h =
       cond_both (int_eq z least) None (clip x least (z -ℤ pos 1)) (Keeps v)
-      (λ yes. let e : z ≡ least = same_int z least yes in let bottom : least ≤ℤ v = low in absurd (omega (arith, ints)))
+      (λ yes. let e : z ≡ least = (signed_Decides z least).0 yes in let bottom : least ≤ℤ v = low in absurd (omega (arith, ints)))
       (λ no. member_clip v x least (z -ℤ pos 1) form m low (omega (arith, ints)))
 
   pub at_most_keeps : (z : ℤ) → v ≤ℤ z → Keeps v (at_most x z)
@@ -45,7 +42,7 @@ module _ (v : ℤ) (x : Interval) (form : IsCanonical x) (m : IsMember v x) wher
   unfolding greater
   greater_keeps z h =
       cond_both (int_eq z greatest) None (clip x (z +ℤ pos 1) greatest) (Keeps v)
-      (λ yes. let e : z ≡ greatest = same_int z greatest yes in let top : v ≤ℤ greatest = high in absurd (omega (arith, ints)))
+      (λ yes. let e : z ≡ greatest = (signed_Decides z greatest).0 yes in let top : v ≤ℤ greatest = high in absurd (omega (arith, ints)))
       (λ no. member_clip v x (z +ℤ pos 1) greatest form m (omega (arith, ints)) high)
 
   -- -- The rows, where w is the member of the bound
@@ -81,7 +78,7 @@ module _ (v : ℤ) (x : Interval) (form : IsCanonical x) (m : IsMember v x) wher
         let above = both.0 in
         let beneath = both.1 in
         cond_both (int_eq bound.hi (pos 0)) None (clip x (pos 0) (bound.hi -ℤ pos 1)) (Keeps v)
-        (λ zero. let e : bound.hi ≡ pos 0 = same_int bound.hi (pos 0) zero in absurd (omega (arith, ints)))
+        (λ zero. let e : bound.hi ≡ pos 0 = (signed_Decides bound.hi (pos 0)).0 zero in absurd (omega (arith, ints)))
         (λ more. member_clip v x (pos 0) (bound.hi -ℤ pos 1) form m above (omega (arith, ints))))
         (λ other. m)
 
@@ -131,10 +128,10 @@ module _ (v : ℤ) (x : Interval) (form : IsCanonical x) (m : IsMember v x) wher
         let above : x.lo ≤ℤ v = member_above v x m in
         let under = m.in_range in
         cond_both (int_eq z x.lo) (greater x z) (cond (int_eq z x.hi) (less x z) (Some x)) (Keeps v)
-        (λ start. let e : z ≡ x.lo = same_int z x.lo start in greater_keeps z (omega (arith, ints)))
+        (λ start. let e : z ≡ x.lo = (signed_Decides z x.lo).0 start in greater_keeps z (omega (arith, ints)))
         (λ later.
         cond_both (int_eq z x.hi) (less x z) (Some x) (Keeps v)
-        (λ end. let e : z ≡ x.hi = same_int z x.hi end in less_keeps z (omega (arith, ints)))
+        (λ end. let e : z ≡ x.hi = (signed_Decides z x.hi).0 end in less_keeps z (omega (arith, ints)))
         (λ within. m))
 
     pub not_equal_keeps : (v ≡ w → ⊥) → Keeps v (not_equal x bound)
@@ -143,7 +140,7 @@ module _ (v : ℤ) (x : Interval) (form : IsCanonical x) (m : IsMember v x) wher
         let up : bound.lo ≤ℤ w = from in
         let under = other.in_range in
         cond_both (int_eq bound.lo bound.hi) (without_end x bound.lo) (Some x) (Keeps v)
-        (λ single. let e : bound.lo ≡ bound.hi = same_int bound.lo bound.hi single in let is : w ≡ bound.lo = omega (arith, ints) in without_keeps bound.lo (λ same. apart (omega (arith, ints))))
+        (λ single. let e : bound.lo ≡ bound.hi = (signed_Decides bound.lo bound.hi).0 single in let is : w ≡ bound.lo = omega (arith, ints) in without_keeps bound.lo (λ same. apart (omega (arith, ints))))
         (λ several. m)
 
     pub negative_keeps : (w ≡ pos 0 → v <ℤ pos 0) → Keeps v (negative x bound)
@@ -154,8 +151,8 @@ module _ (v : ℤ) (x : Interval) (form : IsCanonical x) (m : IsMember v x) wher
         cond_both (is_zero bound) (less x (pos 0)) (Some x) (Keeps v)
         (λ zero.
         let both = and_parts (int_eq bound.lo (pos 0)) (int_eq bound.hi (pos 0)) zero in
-        let start : bound.lo ≡ pos 0 = same_int bound.lo (pos 0) both.0 in
-        let end : bound.hi ≡ pos 0 = same_int bound.hi (pos 0) both.1 in
+        let start : bound.lo ≡ pos 0 = (signed_Decides bound.lo (pos 0)).0 both.0 in
+        let end : bound.hi ≡ pos 0 = (signed_Decides bound.hi (pos 0)).0 both.1 in
         less_keeps (pos 0) (h (omega (arith, ints))))
         (λ other. m)
 
@@ -167,7 +164,7 @@ module _ (v : ℤ) (x : Interval) (form : IsCanonical x) (m : IsMember v x) wher
         cond_both (is_zero bound) (at_least x (pos 0)) (Some x) (Keeps v)
         (λ zero.
         let both = and_parts (int_eq bound.lo (pos 0)) (int_eq bound.hi (pos 0)) zero in
-        let start : bound.lo ≡ pos 0 = same_int bound.lo (pos 0) both.0 in
-        let end : bound.hi ≡ pos 0 = same_int bound.hi (pos 0) both.1 in
+        let start : bound.lo ≡ pos 0 = (signed_Decides bound.lo (pos 0)).0 both.0 in
+        let end : bound.hi ≡ pos 0 = (signed_Decides bound.hi (pos 0)).0 both.1 in
         at_least_keeps (pos 0) (h (omega (arith, ints))))
         (λ other. m)

@@ -1,6 +1,6 @@
 -- Lists of parts that rise have each part once, so whatever holds all of them is as long at least.
-use Rattle.std.proofs.Common.{◌≡◌, ◌≤◌, ℕ, inl, inr, Bool, true, false, cond, List, [], ◌∷◌, length, refl, sym, ◌∙◌, ap}
-use Rattle.std.specs.Prelude.{ℤ, ◌==◌, nat_lt, int_lt, ◌&&◌, ◌||◌}
+use Rattle.std.proofs.Common.{◌≡◌, ◌≤◌, inl, inr, Bool, true, false, cond, List, [], ◌∷◌, length, refl, sym, ◌∙◌, ap}
+use Rattle.std.specs.Prelude.{◌==◌, ◌&&◌, ◌||◌}
 use Rattle.std.specs.List.{list_any, AllByRecursion}
 use Rattle.std.specs.List.Sorted.{IsStrictlySortedBy}
 use Rattle.std.specs.Cmp.{IsTotalOrder, on_total, then_total, nat_cmp_total, int_cmp_total, eq_by_cmp_equiv, unsigned_tied}
@@ -18,6 +18,7 @@ use Rattle.vset.specs.declared.part.Part.{Part}
 use Rattle.vset.specs.Operations.{same_interval, same_part}
 use Rattle.abs_semantics.specs.Resolve.{interval_before, part_before, put_part, rising_onto}
 use Rattle.abs_semantics.proofs.LevelLemmas.{IsAmong, rising_new}
+use Rattle.image_map.proofs.OrderLemmas.{nat_before, int_before, less}
 
 -- -- The order of parts
 
@@ -40,22 +41,6 @@ lt_then Less s = refl
 lt_then Equal s = refl
 lt_then Greater s = refl
 
-nat_lt_is : (x y : ℕ) → is_lt (nat_cmp x y) ≡ nat_lt x y
-nat_lt_is x y = by_tests (nat_lt x y) (x == y)
-  where
-    by_tests : (s t : Bool) → is_lt (cond s Less (cond t Equal Greater)) ≡ s
-    by_tests true t = refl
-    by_tests false true = refl
-    by_tests false false = refl
-
-int_lt_is : (x y : ℤ) → is_lt (int_cmp x y) ≡ int_lt x y
-int_lt_is x y = by_tests (int_lt x y) (int_lt y x)
-  where
-    by_tests : (s t : Bool) → is_lt (cond s Less (cond t Greater Equal)) ≡ s
-    by_tests true t = refl
-    by_tests false true = refl
-    by_tests false false = refl
-
 interval_same : (a b : Interval) → is_eq (interval_cmp a b) ≡ same_interval a b
 interval_same a b =
     rw (eq_then (nat_cmp a.stride b.stride) (ordering_then (int_cmp a.lo b.lo) (int_cmp a.hi b.hi)), eq_then (int_cmp a.lo b.lo) (int_cmp a.hi b.hi), unsigned_tied a.stride b.stride) (assoc (a.stride == b.stride) (int_eq a.lo b.lo) (int_eq a.hi b.hi))
@@ -66,7 +51,7 @@ interval_same a b =
 
 interval_lower : (a b : Interval) → is_lt (interval_cmp a b) ≡ interval_before a b
 interval_lower a b =
-    rw (lt_then (nat_cmp a.stride b.stride) (ordering_then (int_cmp a.lo b.lo) (int_cmp a.hi b.hi)), lt_then (int_cmp a.lo b.lo) (int_cmp a.hi b.hi), unsigned_tied a.stride b.stride, nat_lt_is a.stride b.stride, int_lt_is a.lo b.lo, int_lt_is a.hi b.hi) refl
+    rw (lt_then (nat_cmp a.stride b.stride) (ordering_then (int_cmp a.lo b.lo) (int_cmp a.hi b.hi)), lt_then (int_cmp a.lo b.lo) (int_cmp a.hi b.hi), unsigned_tied a.stride b.stride, nat_before a.stride b.stride, int_before a.lo b.lo, int_before a.hi b.hi) refl
 
 part_same : (x y : Part) → is_eq (part_cmp x y) ≡ same_part x y
 unfolding region_cmp
@@ -77,11 +62,6 @@ unfolding region_cmp
 part_lower x y = lt_then (region_cmp x.region y.region) (interval_cmp x.si y.si) ∙ ap (λ t. cond (same_region x.region y.region) t (region_before x.region y.region)) (interval_lower x.si y.si)
 
 -- -- Lists that rise
-
-less : (r : Ordering) → is_lt r ≡ true → r ≡ Less
-less Less is = refl
-less Equal is = absurd (true≢false (sym is))
-less Greater is = absurd (true≢false (sym is))
 
 turned : (r s : Ordering) → r ≡ ordering_reverse s → is_eq s ≡ false → is_lt s ≡ false → r ≡ Less
 turned r Less turn ne nlt = absurd (true≢false nlt)

@@ -2,9 +2,8 @@
 use Rattle.std.proofs.Common.{◌≡◌, ℕ, zero, suc, ◌<◌, ◌≤◌, ◌==◌, ◌⊎◌, inl, inr, Bool, true, false, cond, ◌&&◌, List, [], ◌∷◌, Option, Some, None, refl, sym, ◌∙◌, ap, subst, arith, ℤ}
 use Rattle.std.specs.Prelude.{is_some, pos, ◌-ℤ◌}
 use Rattle.std.specs.List.{list_all}
-use Rattle.std.specs.Ordering.{int_eq}
-use Rattle.std.specs.Cmp.{signed_Decides}
 use Rattle.std.proofs.lemmas.Bool.{cond_both, and_parts, and_from, or_cases, eqb-true, eq-eqb, leb-true, false≢true}
+use Rattle.std.proofs.lemmas.Option.{same_Some}
 use Rattle.image_map.specs.declared.region.Cell.{Cell}
 use Rattle.image_map.specs.declared.region.RegionId.{RegionId}
 use Rattle.image_map.specs.declared.region.RegionId.TheVariants.{Frame, OldFrame, Heap, OldHeap}
@@ -12,7 +11,7 @@ use Rattle.image_map.specs.Regions.{same_region, same_cell}
 use Rattle.image_map.proofs.OrderLaws.{same_region-equal, same_cell-equal}
 use Rattle.ia32_semantics.specs.State.{State, little_endian}
 use Rattle.ia32_types.specs.Numbers.{reg_number}
-use Rattle.strided.specs.Interval.{Interval, IsMember}
+use Rattle.strided.specs.Interval.{IsMember}
 use Rattle.strided.specs.Operations as interval
 use Rattle.vset.specs.declared.facts.CmpFact.{CmpFact}
 use Rattle.vset.specs.declared.facts.CmpPlace.{CmpPlace}
@@ -23,6 +22,7 @@ use Rattle.vset.specs.World.{World, Thing, TheImage, ActivationAt, BlockAt, IsIn
 use Rattle.vset.specs.Members.{HasValue}
 use Rattle.abs_semantics.proofs.LessLemmas.{less_members, less_has}
 use Rattle.abs_cmp.specs.Facts.{IsCompared}
+use Rattle.vset.proofs.SameLemmas.{same_interval-equal}
 use Rattle.abs_semantics.specs.declared.parts.CellValue.{CellValue}
 use Rattle.abs_semantics.specs.declared.parts.Link.{Link}
 use Rattle.abs_semantics.specs.declared.parts.Known.{Known}
@@ -34,9 +34,6 @@ use Rattle.abs_semantics.specs.Laws.{BelowStandsForNoMore}
 use Rattle.abs_semantics.proofs.CellLemmas.{head_value}
 
 -- -- Tests
-
-pub some_same : (m n : ℕ) → Some m ≡ Some n → m ≡ n
-some_same m n e = cc
 
 pub none_some : (n : ℕ) → None ≡ Some n → ⊥
 none_some n e = absurd (cc)
@@ -92,15 +89,6 @@ same_flag-equal true true e = refl
 same_flag-equal true false e = sym e
 same_flag-equal false true e = e
 same_flag-equal false false e = refl
-
-same_interval-equal : (a b : Interval) → same_interval a b ≡ true → a ≡ b
-same_interval-equal a b e =
-    let outer = and_parts (a.stride == b.stride && int_eq a.lo b.lo) (int_eq a.hi b.hi) e in
-    let inner = and_parts (a.stride == b.stride) (int_eq a.lo b.lo) outer.0 in
-    let stride : a.stride ≡ b.stride = eqb-true a.stride b.stride inner.0 in
-    let lo : a.lo ≡ b.lo = (signed_Decides a.lo b.lo).0 inner.1 in
-    let hi : a.hi ≡ b.hi = (signed_Decides a.hi b.hi).0 outer.1 in
-    λ i. record { stride = stride i; lo = lo i; hi = hi i }
 
 -- -- Regions
 
@@ -181,7 +169,7 @@ module _ (r : RegionId) (n : ℕ) where
   first_known k ks P known here later = by_cases (same_region k.region r) refl known
     where
       by_cases : (t : Bool) → same_region k.region r ≡ t → cond t (Some k.number) (known_of r ks) ≡ Some n → P
-      by_cases true same is = here (same_region-equal k.region r same) (some_same k.number n is)
+      by_cases true same is = here (same_region-equal k.region r same) (same_Some k.number n is)
       by_cases false other is = later is
 
   at_most_sized : (o : Option ℕ) (given : ℕ) → is_at_most o n ≡ true → n ≤ given → IsSized o given

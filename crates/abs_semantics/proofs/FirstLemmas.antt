@@ -4,6 +4,7 @@ use Rattle.std.specs.Prelude.{is_some, option_map}
 use Rattle.std.specs.Int.{int_gap, cast_unsigned, w32}
 use Rattle.std.proofs.lemmas.Int.{ints, int_wrap_fits}
 use Rattle.std.proofs.lemmas.Bool.{cond_both, or_cases}
+use Rattle.std.specs.Cmp.{signed_Decides}
 use Rattle.image_map.specs.declared.image.Image.{Image}
 use Rattle.image_map.specs.declared.region.Activation.{Activation}
 use Rattle.image_map.specs.declared.region.Cell.{Cell}
@@ -31,7 +32,6 @@ use Rattle.abs_semantics.specs.StandsFor.{IsCellOf, Owns, world_of}
 use Rattle.abs_semantics.specs.Laws.{StartsHaveStates}
 use Rattle.abs_semantics.proofs.CellLemmas.{rebuilt_value}
 use Rattle.abs_semantics.proofs.ClimbLemmas.{fits_word}
-use Rattle.abs_semantics.proofs.MeetLemmas.{same_int}
 use Rattle.abs_semantics.proofs.RangeLemmas.{numbers_of, numbers_4, numbers_2, numbers_1}
 use Rattle.abs_semantics.proofs.StartLemmas.{one_split, start_stands, empty_split}
 use Rattle.abs_semantics.proofs.ThingLemmas.{is_image}
@@ -111,7 +111,7 @@ module _ (image : Image) (settings : Settings) (lane : ℕ) (s : State) (h : IsS
       (λ some. of_length (lengths some)) (λ _. tt)
     where
       is_len : (n : ℕ) → has_length n c ≡ true → clen ≡ n
-      is_len n is = let same : c.end ≡ c.start +ℤ pos n = same_int c.end (c.start +ℤ pos n) is in let last : c.end ≡ c.start +ℤ pos clen = cell.lies.end in omega (arith, ints)
+      is_len n is = let same : c.end ≡ c.start +ℤ pos n = (signed_Decides c.end (c.start +ℤ pos n)).0 is in let last : c.end ≡ c.start +ℤ pos clen = cell.lies.end in omega (arith, ints)
 
       lengths : (has_length 1 c || (has_length 2 c || has_length 4 c)) ≡ true → (clen ≡ 4) ⊎ ((clen ≡ 1) ⊎ (clen ≡ 2))
       lengths some =

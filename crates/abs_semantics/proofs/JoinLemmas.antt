@@ -2,6 +2,7 @@
 use Rattle.std.proofs.Common.{◌≡◌, ℕ, ◌<◌, ◌≤◌, ◌==◌, ◌⊎◌, inl, inr, Bool, true, false, not, cond, ◌&&◌, List, [], ◌∷◌, ◌++◌, Option, Some, None, refl, sym, ◌∙◌, ap, subst, arith, ℤ}
 use Rattle.std.specs.Prelude.{nat_le, nat_lt, pos, ◌-ℤ◌, map}
 use Rattle.std.proofs.lemmas.Bool.{cond_both, and_parts, or_cases, or_left, or_right, eqb-true, eq-eqb, leb-true, leb-false, true≢false, false≢true, not-true}
+use Rattle.std.proofs.lemmas.Option.{same_Some}
 use Rattle.image_map.specs.declared.region.Cell.{Cell}
 use Rattle.image_map.specs.declared.region.RegionId.{RegionId}
 use Rattle.image_map.specs.Regions.{same_region, region_before}
@@ -23,7 +24,7 @@ use Rattle.abs_semantics.specs.Joins.{held_by, may_hold, joined_value, widened_v
 use Rattle.abs_semantics.specs.StandsFor.{world_of, IsLinked, IsSized, HoldsFact}
 use Rattle.abs_semantics.specs.Laws.{JoinedStandsForFirst, JoinedStandsForSecond, WidenedStandsForNew, WidenedStandsForOld}
 use Rattle.abs_semantics.proofs.CellLemmas.{rebuilt_value, value_canonical}
-use Rattle.abs_semantics.proofs.BelowLemmas.{thing_has_region, same_fact_holds, same_fact-sym, same_linked, some_same, none_some, below_stands}
+use Rattle.abs_semantics.proofs.BelowLemmas.{thing_has_region, same_fact_holds, same_fact-sym, same_linked, none_some, below_stands}
 
 -- -- Cells
 
@@ -174,7 +175,7 @@ lesser_left m None given le = le
 lesser_left m (Some n) given le = cond_both (nat_le m n) m n (λ k. k ≤ given) (λ _. le) (λ more. let above : n < m = leb-false m n more in omega arith)
 
 sized_at_most : (n given : ℕ) → IsSized (Some n) given → n ≤ given
-sized_at_most n given size = subst (λ k. k ≤ given) (sym (some_same n size.least size.known)) size.below
+sized_at_most n given size = subst (λ k. k ≤ given) (sym (same_Some n size.least size.known)) size.below
 
 lesser_right : (m : ℕ) (o : Option ℕ) (given : ℕ) → IsSized o given → lesser m o ≤ given
 lesser_right m None given size = absurd (none_some size.least size.known)

@@ -2,11 +2,10 @@
 use Rattle.std.proofs.Common.{◌≡◌, ℕ, ◌⊎◌, inl, inr, Bool, true, false, cond, List, [], ◌∷◌, ◌++◌, map, length, refl, sym, ◌∙◌, ap, subst}
 use Rattle.std.specs.Prelude.{nat_lt, filter}
 use Rattle.std.specs.List.{list_any, flat_map}
-use Rattle.std.proofs.lemmas.Bool.{and_from, or_left, or_right, false≢true, cond_both}
+use Rattle.std.proofs.lemmas.Bool.{or_left, or_right, false≢true, cond_both}
 use Rattle.vset.specs.declared.part.Part.{Part}
-use Rattle.vset.specs.Values.{Parts}
-use Rattle.vset.specs.Operations.{same_part, same_parts, same_values}
-use Rattle.vset.proofs.SameLemmas.{same_values-equal}
+use Rattle.vset.specs.Operations.{same_part}
+use Rattle.vset.proofs.SameLemmas.{same_part-equal}
 use Rattle.abs_semantics.specs.declared.parts.Reason.{Reason}
 use Rattle.abs_semantics.specs.declared.parts.Reason.TheVariants.{UnknownWrite, OutOfRegion, HeapOverrun}
 use Rattle.abs_semantics.specs.States.{AbsState}
@@ -14,13 +13,6 @@ use Rattle.abs_semantics.specs.Resolve.{Verdict, Refuses, Stays, Follows, verdic
 use Rattle.abs_semantics.proofs.VerdictLemmas.{Passes}
 
 -- -- Lists of different parts
-
-pub same_part-equal : (x y : Part) → same_part x y ≡ true → x ≡ y
-unfolding same_parts
-same_part-equal x y e = let same : Parts (x ∷ []) ≡ Parts (y ∷ []) = same_values-equal (Parts (x ∷ [])) (Parts (y ∷ [])) all in cc
-  where
-    all : same_values (Parts (x ∷ [])) (Parts (y ∷ [])) ≡ true
-    all = and_from (same_part x y) true e refl
 
 abbrev pub IsAmong : {A : Type 0} → A → List A → Type 0
 IsAmong x [] = ⊥

@@ -78,9 +78,6 @@ shares_or_apart at count cat clen = by_start (leq at cat)
 
 -- -- Members whose ranges meet a cell
 
-pub same_int : (a b : ℤ) → int_eq a b ≡ true → a ≡ b
-same_int a b e = (signed_Decides a b).0 e
-
 -- what is met
 pub record IsMeeting (o : ℤ) (len : ℕ) (c : Cell) (si : Interval) : Type 0 where
   pub met : Interval
@@ -104,11 +101,11 @@ pub at_range : (o : ℤ) (len : ℕ) (c : Cell) (m : Interval) → is_range len 
 at_range o len c m e has =
     let outer = and_parts (int_eq m.lo c.start && int_eq m.hi c.start) (has_length len c) e in
     let inner = and_parts (int_eq m.lo c.start) (int_eq m.hi c.start) outer.0 in
-    let lo : m.lo ≡ c.start = same_int m.lo c.start inner.0 in
-    let hi : m.hi ≡ c.start = same_int m.hi c.start inner.1 in
+    let lo : m.lo ≡ c.start = (signed_Decides m.lo c.start).0 inner.0 in
+    let hi : m.hi ≡ c.start = (signed_Decides m.hi c.start).0 inner.1 in
     let from : m.lo ≤ℤ o = member_above o m has in
     let to : o ≤ℤ m.hi = has.in_range in
-    (omega (arith, ints), same_int c.end (c.start +ℤ pos len) outer.1)
+    (omega (arith, ints), (signed_Decides c.end (c.start +ℤ pos len)).0 outer.1)
 
 -- -- A cell of a thing, and a range of a thing, that share a byte
 

@@ -4,6 +4,7 @@ use Rattle.std.specs.Prelude.{◌≤ℤ◌, ◌<ℤ◌, int_le, int_lt, filter}
 use Rattle.std.specs.Int.{int_gap}
 use Rattle.std.proofs.lemmas.Int.{ints}
 use Rattle.std.proofs.lemmas.Bool.{cond_both, and_parts, and_from, or_cases, true≢false}
+use Rattle.std.specs.Cmp.{signed_Decides}
 use Rattle.image_map.specs.declared.image.Image.{Image}
 use Rattle.image_map.specs.declared.region.Cell.{Cell}
 use Rattle.image_map.specs.Regions.{same_region}
@@ -34,7 +35,7 @@ use Rattle.abs_semantics.specs.Stores.{with_memory, IsStored, IsCopied, HoldsRan
 use Rattle.abs_semantics.specs.Laws.{RangeWritesStandOn, UnknownWritesStandOn}
 use Rattle.abs_semantics.proofs.JoinLemmas.{held_has}
 use Rattle.abs_semantics.proofs.EntryLemmas.{entries_form, no_reason, sure_is}
-use Rattle.abs_semantics.proofs.MeetLemmas.{Shares, Apart, shares_or_apart, same_int}
+use Rattle.abs_semantics.proofs.MeetLemmas.{Shares, Apart, shares_or_apart}
 use Rattle.abs_semantics.proofs.ThingLemmas.{one_owner}
 use Rattle.abs_semantics.proofs.OwnerLemmas.{resolved_bytes}
 use Rattle.abs_semantics.proofs.StoreLemmas.{same_bytes, overwritten_stands}
@@ -84,7 +85,7 @@ held_end c v e =
     (or_cases (has_length 4 c || (has_length 1 c && fits_below (pos 255) (only_number v))) (has_length 2 c && fits_below (pos 65535) (only_number v)) e)
   where
     len : (n : ℕ) → has_length n c ≡ true → c.end ≡ c.start +ℤ pos n
-    len n is = same_int c.end (c.start +ℤ pos n) is
+    len n is = (signed_Decides c.end (c.start +ℤ pos n)).0 is
 
 pub held_length : (c : Cell) (v : Values) (clen : ℕ) → c.end ≡ c.start +ℤ pos clen → may_hold c v ≡ true → (clen ≡ 4) ⊎ ((clen ≡ 1) ⊎ (clen ≡ 2))
 held_length c v clen end e =

@@ -23,6 +23,7 @@ use Rattle.vset.proofs.MemberLemmas.{join_has_left, join_has_right, with_canonic
 use Rattle.vset.specs.declared.part.Both.TheVariants.{Joined}
 use Rattle.abs_alu.proofs.CanonicalLemmas.{settled_canonical}
 use Rattle.std.proofs.Math.Nat.{le-div_iff_mul-le}
+use Rattle.std.specs.Cmp.{signed_Decides}
 use Rattle.strided.proofs.SpacedLemmas.{gap_is}
 use Rattle.abs_semantics.specs.States.{AbsState, HasCanonical, value_at}
 use Rattle.abs_semantics.specs.Joins.{has_length}
@@ -36,7 +37,6 @@ use Rattle.abs_semantics.specs.Laws.{ReadsAreMembers, RangeReadsAreMembers}
 use Rattle.abs_semantics.proofs.CellLemmas.{value_canonical}
 use Rattle.abs_semantics.proofs.LevelLemmas.{IsAmong, among_before, among_after}
 use Rattle.abs_semantics.proofs.EntryLemmas.{one_owned, no_reason, lone_is}
-use Rattle.abs_semantics.proofs.MeetLemmas.{same_int}
 use Rattle.abs_semantics.proofs.OwnerLemmas.{resolved_bytes}
 
 -- -- The cell that a range is
@@ -89,7 +89,7 @@ cell_at_is d r offset len c e = by_found (find (holds offset) (cells_of d r)) re
             let same : f ≡ c = cell_equal f c e in
             let both = and_parts (int_eq f.start offset) (has_length len f) test in
             subst (IsCellAt r offset len) same
-            (record { region = found_of r (holds offset) (cells_of d r) f (in_region r (extents d.image r) _) is; start = same_int f.start offset both.0; end = same_int f.end (f.start +ℤ pos len) both.1 })
+            (record { region = found_of r (holds offset) (cells_of d r) f (in_region r (extents d.image r) _) is; start = (signed_Decides f.start offset).0 both.0; end = (signed_Decides f.end (f.start +ℤ pos len)).0 both.1 })
         by_test false test e = absurd (cc)
 
 -- -- Members

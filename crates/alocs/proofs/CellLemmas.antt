@@ -9,6 +9,7 @@ use Rattle.std.proofs.lemmas.Option.{none-some, same_Some}
 use Rattle.strided.proofs.MemberLemmas.{int_le_true, int_le_false, le_int_le}
 use Rattle.image_map.specs.declared.region.Cell.{Cell}
 use Rattle.image_map.specs.declared.region.RegionId.{RegionId}
+use Rattle.item_list.proofs.ListLaws.{found_first}
 use Rattle.alocs.specs.declared.extents.Extent.{Extent}
 use Rattle.alocs.specs.Extents.{RiseFrom}
 use Rattle.alocs.specs.Cells.{RiseAbove, AreRising, cells_from, cells_in, CellsRise}
@@ -95,14 +96,6 @@ found_behind p (x ∷ xs) ys none = go (p x) none (found_behind p xs ys)
   where
     go : (b : Bool) → cond b (Some x) (find p xs) ≡ None → (find p xs ≡ None → find p (xs ++ ys) ≡ find p ys) → cond b (Some x) (find p (xs ++ ys)) ≡ find p ys
     go true e f = absurd (none-some x (sym e))
-    go false e f = f e
-
-found_here : {X : Type 0} (p : X → Bool) (xs ys : List X) (y : X) → find p xs ≡ Some y → find p (xs ++ ys) ≡ Some y
-found_here p [] ys y some = absurd (none-some y some)
-found_here p (x ∷ xs) ys y some = go (p x) some (found_here p xs ys y)
-  where
-    go : (b : Bool) → cond b (Some x) (find p xs) ≡ Some y → (find p xs ≡ Some y → find p (xs ++ ys) ≡ Some y) → cond b (Some x) (find p (xs ++ ys)) ≡ Some y
-    go true e f = e
     go false e f = f e
 
 -- cells that begin at or behind a place end above it
@@ -196,7 +189,7 @@ after_some r low at (y ∷ ys) cuts x h some = go (int_lt at y.end) refl some (�
         subst (λ (z : Extent). (at <ℤ z.end) × (z.start <ℤ z.end) × ((c : Cell) → find (ends_after (int_max at z.start)) (cells_from r z.start cuts z.end) ≡ Some c → find (ends_after at) (cells_in r (y ∷ ys) cuts) ≡ Some c)) same (
           int_lt_true at y.end is,
           h.1,
-          λ c found. found_here (ends_after at) (cells_from r y.start cuts y.end) (cells_in r ys cuts) c
+          λ c found. found_first (ends_after at) (cells_from r y.start cuts y.end) (cells_in r ys cuts) c
               (later_same y.start at y.start (cells_from r y.start cuts y.end) (omega (arith, ints)) (cells_rise r y.start y.start cuts y.end (omega (arith, ints)) h.1) ∙ found),
         )
     go false is e f =

@@ -2,7 +2,7 @@
 use Rattle.std.proofs.Common.{◌≡◌, ℕ, zero, suc, ◌+◌, ◌-◌, ◌<◌, ◌≤◌, Bool, true, false, ltb, cond, ◌⊎◌, inl, inr, ⊎_elim, Option, Some, None, List, [], ◌∷◌, length, get_or, refl, sym, subst, ap, ◌∙◌, arith}
 use Rattle.std.specs.Prelude.{find, slice_get}
 use Rattle.std.specs.List.Sorted.{IsPartitionedBy, IsPartitionPoint}
-use Rattle.std.proofs.lemmas.Bool.{true≢false, ltb-true, ltb-false}
+use Rattle.std.proofs.lemmas.Bool.{true≢false, ltb-true, ltb-false, cases_Bool}
 use Rattle.std.proofs.lemmas.List.{get_or_default}
 use Rattle.image_map.specs.declared.region.RegionId.{RegionId}
 use Rattle.image_map.specs.Regions.{same_region, region_before}
@@ -11,10 +11,6 @@ use Rattle.image_map.proofs.OrderLaws.{same_region-equal, region_before-itself, 
 use Rattle.image_map.proofs.OrderLemmas.{before-total}
 use Rattle.alocs.specs.declared.cells.CutList.{CutList}
 use Rattle.alocs.specs.Halves.{AreByRegion}
-
-either : (b : Bool) → (b ≡ true) ⊎ (b ≡ false)
-either true = inl refl
-either false = inr refl
 
 tail : (x : CutList) (xs : List CutList) → AreByRegion (x ∷ xs) → AreByRegion xs
 tail x xs h k d lt = let e : suc k + 1 ≡ suc (k + 1) = omega arith in subst (λ (n : ℕ). region_before (get_or xs k d).region (get_or (x ∷ xs) n d).region ≡ true) e (h (suc k) d (omega arith))
@@ -35,10 +31,10 @@ regions_parted r (x ∷ xs) h = go (regions_parted r xs (tail x xs h))
     go f (suc i) (suc j) d le lt up = f i j d (omega arith) (omega arith) up
 
 other : (a b : RegionId) → region_before a b ≡ true → same_region a b ≡ false
-other a b h = ⊎_elim (λ (e : same_region a b ≡ true). absurd (true≢false (sym h ∙ subst (λ (q : RegionId). region_before a q ≡ false) (same_region-equal a b e) (region_before-itself a)))) (λ e. e) (either (same_region a b))
+other a b h = ⊎_elim (λ (e : same_region a b ≡ true). absurd (true≢false (sym h ∙ subst (λ (q : RegionId). region_before a q ≡ false) (same_region-equal a b e) (region_before-itself a)))) (λ e. e) (cases_Bool (same_region a b))
 
 other_way : (a b : RegionId) → region_before b a ≡ true → same_region a b ≡ false
-other_way a b h = ⊎_elim (λ (e : same_region a b ≡ true). absurd (true≢false (sym h ∙ subst (λ (q : RegionId). region_before q a ≡ false) (same_region-equal a b e) (region_before-itself a)))) (λ e. e) (either (same_region a b))
+other_way a b h = ⊎_elim (λ (e : same_region a b ≡ true). absurd (true≢false (sym h ∙ subst (λ (q : RegionId). region_before q a ≡ false) (same_region-equal a b e) (region_before-itself a)))) (λ e. e) (cases_Bool (same_region a b))
 
 skips : (r : RegionId) (x : CutList) (xs : List CutList) → same_region x.region r ≡ false → find (λ (l : CutList). same_region l.region r) (x ∷ xs) ≡ find (λ (l : CutList). same_region l.region r) xs
 skips r x xs h = ap (λ b. cond b (Some x) (find (λ (l : CutList). same_region l.region r) xs)) h
@@ -80,4 +76,4 @@ one_further lists n a b answer before some lt is told k e le =
     (less (k + 1) n)
   where
     less : (x y : ℕ) → (x < y) ⊎ (y ≤ x)
-    less x y = ⊎_elim (λ h. inl (ltb-true x y h)) (λ h. inr (ltb-false x y h)) (either (ltb x y))
+    less x y = ⊎_elim (λ h. inl (ltb-true x y h)) (λ h. inr (ltb-false x y h)) (cases_Bool (ltb x y))

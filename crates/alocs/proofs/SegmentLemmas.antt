@@ -1,10 +1,10 @@
 -- The extents of an image's segments.
-use Rattle.std.proofs.Common.{◌≡◌, ℕ, zero, suc, ◌+◌, ◌<◌, ◌≤◌, ◌⊎◌, inl, inr, ⊎_elim, ℤ, pos, true, false, List, [], ◌∷◌, ◌++◌, length, take, get_or, refl, sym, subst, ap, ◌∙◌, arith}
+use Rattle.std.proofs.Common.{◌≡◌, ℕ, zero, suc, ◌+◌, ◌<◌, ◌≤◌, ◌⊎◌, inl, inr, ⊎_elim, ℤ, pos, true, false, List, [], ◌∷◌, ◌++◌, length, take, get_or, sym, subst, ap, ◌∙◌, arith}
 use Rattle.std.specs.Prelude.{◌≤ℤ◌, ◌<ℤ◌, ◌↔◌, int_lt, Contains}
 use Rattle.std.specs.List.{insert}
 use Rattle.std.specs.List.Sorted.{IsPartitionedBy, IsPartitionPoint}
 use Rattle.std.proofs.lemmas.Int.{ints}
-use Rattle.std.proofs.lemmas.List.{take_more}
+use Rattle.std.proofs.lemmas.List.{take_more, take_all}
 use Rattle.std.proofs.lemmas.List.Elements.{Contains-append_left, Contains-push, Contains-push_cases}
 use Rattle.std.proofs.lemmas.List.Sorted.{IsPermutation-insert, IsPermutation-sym, Contains-permutation}
 use Rattle.image_map.specs.declared.image.Segment.{Segment}
@@ -128,12 +128,6 @@ first_more ss i xs new s lt is o rise each = record {
 
   wider : (t : Segment) → Contains (take i ss) t → Contains (take (i + 1) ss) t
   wider t h = subst (λ (l : List Segment). Contains l t) (sym all) (Contains-append_left (take i ss) (s ∷ []) t h)
-
-take_all : {X : Type 0} (i : ℕ) (xs : List X) → length xs ≤ i → take i xs ≡ xs
-take_all zero [] le = refl
-take_all zero (x ∷ xs) le = absurd (omega arith)
-take_all (suc i) [] le = refl
-take_all (suc i) (x ∷ xs) le = ap (λ l. x ∷ l) (take_all i xs (omega arith))
 
 pub first_all : (ss : List Segment) (i : ℕ) (xs : List Extent) → length ss ≤ i → OfFirst ss i xs → AreOfImage ss xs
 first_all ss i xs le o = record {

@@ -1,7 +1,7 @@
 -- Lists of cuts are lists that cells are made from.
-use Rattle.std.proofs.Common.{◌≡◌, Bool, true, false, inl, inr, ⊎_elim, ◌⊎◌, List, [], ◌∷◌, refl, sym, subst, ◌∙◌}
+use Rattle.std.proofs.Common.{◌≡◌, true, false, ⊎_elim, ◌⊎◌, List, [], ◌∷◌, sym, subst, ◌∙◌}
 use Rattle.std.specs.List.{All}
-use Rattle.std.proofs.lemmas.Bool.{true≢false}
+use Rattle.std.proofs.lemmas.Bool.{true≢false, cases_Bool}
 use Rattle.std.proofs.lemmas.List.Elements.{All-cons, All-nil, All-weaker}
 use Rattle.image_map.specs.declared.region.RegionId.{RegionId}
 use Rattle.image_map.specs.Regions.{same_region, region_before}
@@ -10,13 +10,9 @@ use Rattle.alocs.specs.declared.cells.CutList.{CutList}
 use Rattle.alocs.specs.Cells.{AreCutLists, AreOfOthers}
 use Rattle.asi_cuts.specs.Closed.{ListsRise, ListsRiseBehind}
 
-either : (b : Bool) → (b ≡ true) ⊎ (b ≡ false)
-either true = inl refl
-either false = inr refl
-
 other : (low r : RegionId) → region_before low r ≡ true → same_region r low ≡ false
 other low r h =
-    ⊎_elim (λ (e : same_region r low ≡ true). absurd (true≢false (sym h ∙ subst (λ (q : RegionId). region_before low q ≡ false) (sym (same_region-equal r low e)) (region_before-itself low)))) (λ e. e) (either (same_region r low))
+    ⊎_elim (λ (e : same_region r low ≡ true). absurd (true≢false (sym h ∙ subst (λ (q : RegionId). region_before low q ≡ false) (sym (same_region-equal r low e)) (region_before-itself low)))) (λ e. e) (cases_Bool (same_region r low))
 
 all_later : (low : RegionId) (ls : List CutList) → ListsRiseBehind low ls → All (λ (l : CutList). region_before low l.region ≡ true) ls
 all_later low [] h = All-nil (λ (l : CutList). region_before low l.region ≡ true)

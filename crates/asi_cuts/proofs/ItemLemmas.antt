@@ -1,8 +1,8 @@
 -- What is added item by item.
-use Rattle.std.proofs.Common.{◌≡◌, ℕ, zero, suc, ◌+◌, ◌<◌, ◌≤◌, inl, inr, ⊎_elim, List, [], ◌∷◌, ◌++◌, length, take, get_or, refl, sym, subst, ap, ◌∙◌, arith}
+use Rattle.std.proofs.Common.{◌≡◌, ℕ, ◌+◌, ◌<◌, ◌≤◌, inl, inr, ⊎_elim, List, [], ◌∷◌, ◌++◌, length, take, get_or, sym, subst, ap, ◌∙◌}
 use Rattle.std.specs.Prelude.{Contains}
 use Rattle.std.specs.declared.result.Result.TheVariants.{Ok, Err}
-use Rattle.std.proofs.lemmas.List.{get_or_default, take_more}
+use Rattle.std.proofs.lemmas.List.{get_or_default, take_more, take_all}
 use Rattle.std.proofs.lemmas.List.Elements.{Contains-push_cases}
 use Rattle.alocs.proofs.MemberLaws.{contains-none}
 use Rattle.asi_cuts.specs.declared.set.Cut.{Cut}
@@ -12,12 +12,6 @@ use Rattle.asi_cuts.proofs.AddLemmas.{Reached, reach_begin, reach_more, reach_st
 
 contains_at : {Y : Type 0} (ys : List Y) (i : ℕ) (y : Y) → i < length ys → y ≡ get_or ys i y → Contains ys y
 contains_at ys i y lt is = (i, lt, sym is)
-
-pub take_all : {X : Type 0} (i : ℕ) (xs : List X) → length xs ≤ i → take i xs ≡ xs
-take_all zero [] le = refl
-take_all zero (x ∷ xs) le = absurd (omega arith)
-take_all (suc i) [] le = refl
-take_all (suc i) (x ∷ xs) le = ap (λ l. x ∷ l) (take_all i xs (omega arith))
 
 pub items_begin : {Y : Type 0} (Q : Y → Cut → Type 0) (ys : List Y) (old : List Cut) → length old ≤ 1024 → Reached (IsOfAny Q ys) (IsOfAny Q (take 0 ys)) old old
 items_begin Q ys old few = reach_begin (IsOfAny Q ys) (IsOfAny Q (take 0 ys)) old few (λ x h. absurd (contains-none h.0 h.1))

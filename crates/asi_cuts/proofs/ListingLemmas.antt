@@ -2,8 +2,8 @@
 use Rattle.std.proofs.Common.{◌≡◌, ℕ, zero, suc, ◌+◌, ◌-◌, ◌<◌, ◌≤◌, ◌↔◌, Bool, true, false, cond, ◌⊎◌, inl, inr, ⊎_elim, ℤ, List, [], ◌∷◌, ◌++◌, length, take, drop, get_or, refl, sym, subst, ap, ◌∙◌, append_assoc, append-nil, arith}
 use Rattle.std.specs.Prelude.{◌<ℤ◌, Contains}
 use Rattle.std.specs.Ordering.{int_cmp, is_lt}
-use Rattle.std.proofs.lemmas.Bool.{cond_both, true≢false}
-use Rattle.std.proofs.lemmas.List.{get_or_default}
+use Rattle.std.proofs.lemmas.Bool.{cond_both, true≢false, cases_Bool}
+use Rattle.std.proofs.lemmas.List.{get_or_default, take_all, drop-drop}
 use Rattle.std.proofs.lemmas.List.Elements.{Contains-append_left, Contains-push, Contains-push_cases}
 use Rattle.image_map.specs.declared.region.RegionId.{RegionId}
 use Rattle.image_map.specs.Regions.{region_cmp, same_region, region_before}
@@ -17,11 +17,7 @@ use Rattle.asi_cuts.specs.declared.set.Cut.{Cut}
 use Rattle.asi_cuts.specs.Closed.{cut_cmp, cut_before, RiseBehind, AreDifferent, ListsRiseBehind, ListsRise}
 use Rattle.asi_cuts.specs.Cuts.{HasCut}
 use Rattle.asi_cuts.specs.Listing.{AreListsOf, run}
-use Rattle.asi_cuts.proofs.ItemLemmas.{take_all}
-
-cases : (b : Bool) → (b ≡ true) ⊎ (b ≡ false)
-cases true = inl refl
-cases false = inr refl
+use Rattle.asi_cuts.proofs.OrderLemmas.{rising_tail}
 
 -- a cut stands before another by its region or, in one region, by its offset
 before_parts : (a b : Cut) → cut_before a b ≡ true → (region_before a.region b.region ≡ true) ⊎ ((a.region ≡ b.region) × (a.offset <ℤ b.offset))
@@ -30,7 +26,7 @@ before_parts a b h =
     ⊎_elim
     (λ (e : same_region a.region b.region ≡ true). inr (same_region-equal a.region b.region e, int_lt_true a.offset b.offset (sym (int_before a.offset b.offset) ∙ (ap is_lt (sym (then-tied (region_cmp a.region b.region) (int_cmp a.offset b.offset) e)) ∙ h))))
     (λ (e : same_region a.region b.region ≡ false). inl (before-then (region_cmp a.region b.region) (int_cmp a.offset b.offset) e ∙ h))
-    (cases (same_region a.region b.region))
+    (cases_Bool (same_region a.region b.region))
 
 later_regions : (r : RegionId) (x : Cut) (xs : List Cut) → RiseBehind x xs → region_before r x.region ≡ true → (y : Cut) → Contains xs y → region_before r y.region ≡ true
 later_regions r x [] h b y k = absurd (contains-none y k)
@@ -116,23 +112,10 @@ rise_push : (ls : List CutList) (l : CutList) → ListsRise ls → ((k : CutList
 rise_push [] l h all up = (up, tt)
 rise_push (k ∷ ks) l h all up = (h.0, behind_push k.region ks l h.1 (all k (contains-head k ks)) (λ j p. all j (contains-tail k ks j p)) up)
 
-different_tail : (x : Cut) (xs : List Cut) → RiseBehind x xs → AreDifferent xs
-different_tail x [] h = tt
-different_tail x (y ∷ ys) h = h.1
-
 different_drop : (n : ℕ) (xs : List Cut) → AreDifferent xs → AreDifferent (drop n xs)
 different_drop zero xs h = h
 different_drop (suc n) [] h = tt
-different_drop (suc n) (x ∷ xs) h = different_drop n xs (different_tail x xs h)
-
-drop_twice : {X : Type 0} (n m : ℕ) (xs : List X) → drop m (drop n xs) ≡ drop (n + m) xs
-drop_twice zero m xs = let e : 0 + m ≡ m = omega arith in rw e refl
-drop_twice (suc n) m [] = none m ∙ sym (none (suc n + m))
-  where
-    none : {X : Type 0} (k : ℕ) → drop {A = X} k [] ≡ []
-    none zero = refl
-    none (suc k) = refl
-drop_twice (suc n) m (x ∷ xs) = let e : suc n + m ≡ suc (n + m) = omega arith in rw e (drop_twice n m xs)
+different_drop (suc n) (x ∷ xs) h = different_drop n xs (rising_tail x xs h)
 
 pub drop_at : (xs : List Cut) (i : ℕ) (x : Cut) → i < length xs → x ≡ get_or xs i x → drop i xs ≡ x ∷ drop (i + 1) xs
 drop_at [] i x lt is = absurd (omega arith)
@@ -194,7 +177,7 @@ listed_more cuts n x offsets lists new different lt at is made l =
     first = subst (λ (ys : List Cut). Contains ys x) (sym begins) (contains-head x (drop (n + 1) cuts))
 
     rest : drop (length (run x.region (drop n cuts))) (drop n cuts) ≡ drop (n + length offsets) cuts
-    rest = drop_twice n (length (run x.region (drop n cuts))) cuts ∙ ap (λ (os : List ℤ). drop (n + length os) cuts) (sym is)
+    rest = drop-drop (length (run x.region (drop n cuts))) n cuts ∙ ap (λ (os : List ℤ). drop (n + length os) cuts) (sym is)
 
     wider : (y : Cut) → Contains (drop (n + length offsets) cuts) y → Contains (drop n cuts) y
     wider y p = (parts.2.each y).1 (inr (subst (λ (ys : List Cut). Contains ys y) (sym rest) p))

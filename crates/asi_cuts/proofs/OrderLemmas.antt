@@ -66,7 +66,7 @@ behind_all low [] k d h lt = absurd (omega arith)
 behind_all low (x ∷ xs) zero d h lt = h.0
 behind_all low (x ∷ xs) (suc k) d h lt = before-trans cut_total low x (get_or xs k d) h.0 (behind_all x xs k d h.1 (omega arith))
 
-rising_tail : (x : Cut) (xs : List Cut) → RiseBehind x xs → AreDifferent xs
+pub rising_tail : (x : Cut) (xs : List Cut) → RiseBehind x xs → AreDifferent xs
 rising_tail x [] h = tt
 rising_tail x (y ∷ ys) h = h.1
 

@@ -1,8 +1,8 @@
 -- The numbers of a row's offsets, and how an element's cut is repeated.
-use Rattle.std.proofs.Common.{◌≡◌, ℕ, ◌+◌, ◌-◌, ◌*◌, ◌/◌, ◌%◌, ◌<◌, ◌≤◌, ◌↔◌, Bool, true, false, eqb, ltb, ◌⊎◌, inl, inr, ⊎_elim, ℤ, pos, ◌+ℤ◌, refl, ap, ◌∙◌, eqb-true, arith}
+use Rattle.std.proofs.Common.{◌≡◌, ℕ, ◌+◌, ◌-◌, ◌*◌, ◌/◌, ◌%◌, ◌<◌, ◌≤◌, ◌↔◌, eqb, ltb, ◌⊎◌, inl, inr, ⊎_elim, ℤ, pos, ◌+ℤ◌, ap, ◌∙◌, eqb-true, arith}
 use Rattle.std.specs.Prelude.{◌≤ℤ◌, ◌<ℤ◌}
 use Rattle.std.proofs.Math.Nat.{le-div_iff_mul-le, mod-lt}
-use Rattle.std.proofs.lemmas.Bool.{cond_both, ltb-true, ltb-false}
+use Rattle.std.proofs.lemmas.Bool.{cond_both, ltb-true, ltb-false, cases_Bool}
 use Rattle.std.proofs.lemmas.Int.{ints}
 use Rattle.std.proofs.lemmas.Nat.{div-add-mod'}
 use native.Mathlib.Nat.{add-mul-mod_self_right, add-mul-div_right, mod-eq_of_lt, div-eq_of_lt}
@@ -15,12 +15,8 @@ steps_some from to g s n k some at is = (
   λ h. let q : k * s ≤ g = (le-div_iff_mul-le (omega arith)).0 (omega arith) in omega (arith, ints),
 )
 
-cases : (b : Bool) → (b ≡ true) ⊎ (b ≡ false)
-cases true = inl refl
-cases false = inr refl
-
 pub lt_or_ge : (a b : ℕ) → (a < b) ⊎ (b ≤ a)
-lt_or_ge a b = ⊎_elim (λ e. inl (ltb-true a b e)) (λ e. inr (ltb-false a b e)) (cases (ltb a b))
+lt_or_ge a b = ⊎_elim (λ e. inl (ltb-true a b e)) (λ e. inr (ltb-false a b e)) (cases_Bool (ltb a b))
 
 -- how far an element reaches, by whether it is the last
 reach_both : (stride count len k : ℕ) (P : ℕ → Type 0) → (k + 1 ≡ count → P len) → ((k + 1 ≡ count → ⊥) → P stride) → P (reach stride count len k)

@@ -1,6 +1,6 @@
 -- One pass over two rising lists gives the cells of both made anew.
-use Rattle.std.proofs.Common.{◌≡◌, Bool, true, false, cond, ◌||◌, List, [], ◌∷◌, ◌++◌, refl, sym, ◌∙◌, ap, subst}
-use Rattle.std.proofs.lemmas.Bool.{cond_both, true≢false}
+use Rattle.std.proofs.Common.{◌≡◌, true, false, cond, List, [], ◌∷◌, ◌++◌, refl, sym, ◌∙◌, ap, subst}
+use Rattle.std.proofs.lemmas.Bool.{cond_both, or_parts}
 use Rattle.image_map.specs.declared.region.Cell.{Cell}
 use Rattle.image_map.specs.Regions.{same_cell, cell_before}
 use Rattle.image_map.proofs.OrderLaws.{same_cell-equal, cell_before-total}
@@ -34,10 +34,6 @@ entry_value c d (Parts ps) rest b = refl
 -- what is found behind such a cell
 entry_is : (c d : Cell) (v : Values) (rest : List CellValue) (w : Values) → IsBefore d rest → (same_cell d c ≡ true → v ≡ w) → (same_cell d c ≡ false → value_in c rest ≡ w) → value_in c (entry d v ++ rest) ≡ w
 entry_is c d v rest w b here later = entry_value c d v rest b ∙ cond_both (same_cell d c) v (value_in c rest) (λ z. z ≡ w) here later
-
-or_false : (s t : Bool) → (s || t) ≡ false → (s ≡ false) × (t ≡ false)
-or_false true t h = absurd (true≢false h)
-or_false false t h = (refl, h)
 
 module _ (f : Cell → Values → Values → Values) (nothing : (c : Cell) → f c Top Top ≡ Top) where
   given : (c d : Cell) (v v' w w' : Values) → c ≡ d → v ≡ v' → w ≡ w' → f c v w ≡ f d v' w'
@@ -168,10 +164,10 @@ module _ (f : Cell → Values → Values → Values) (nothing : (c : Cell) → f
   top_beside : (c : Cell) (xs ys : List CellValue) → is_among c (xs ++ ys) ≡ false → (value_in c xs ≡ Top) × (value_in c ys ≡ Top)
   top_beside c [] [] out = (refl, refl)
   top_beside c [] (y ∷ ys) out =
-      let parts = or_false (same_cell y.cell c) (is_among c ys) out in
+      let parts = or_parts (same_cell y.cell c) (is_among c ys) out in
       (refl, tail_value c y ys parts.0 ∙ (top_beside c [] ys parts.1).1)
   top_beside c (x ∷ xs) ys out =
-      let parts = or_false (same_cell x.cell c) (is_among c (xs ++ ys)) out in
+      let parts = or_parts (same_cell x.cell c) (is_among c (xs ++ ys)) out in
       let tops = top_beside c xs ys parts.1 in
       (tail_value c x xs parts.0 ∙ tops.0, tops.1)
 

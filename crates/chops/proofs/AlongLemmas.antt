@@ -3,7 +3,7 @@ use Rattle.std.proofs.Common.{◌≡◌, ◌≢◌, ◌⊎◌, inl, inr, ⊎_eli
 use Rattle.std.specs.Prelude.{◌↔◌, All, Contains}
 use Rattle.std.proofs.lemmas.Bool.{cases_eq}
 use Rattle.std.proofs.lemmas.List.{get_or_default}
-use Rattle.std.proofs.lemmas.List.Elements.{All-drop, All-take, Contains-append_cases, Contains-get_or}
+use Rattle.std.proofs.lemmas.List.Elements.{All-take, Contains-append_cases, Contains-get_or}
 use Rattle.flow_graph.specs.declared.graph.FlowNode.{FlowNode}
 use Rattle.flow_graph.specs.Rows.{IsBit}
 use Rattle.control_walks.specs.ControlWalks.{Controls}
@@ -152,9 +152,6 @@ all_more g nodes rest some others old mid new k front back grows more before her
 pub all_end : (g : List FlowNode) (nodes rest old new : List ℕ) → length rest ≡ 0 → ComesToAll g nodes rest old new → (b n : ℕ) → Contains nodes n → Controls g b n → Contains old b → Contains new n
 all_end g nodes rest old new none before b n among controls has =
     ⊎_elim (λ waits. let lt : waits.0 < length rest = waits.1 in absurd (omega (arith, none, lt))) (λ done. done) (before b n among controls has)
-
-pub inside_rest : (g : List FlowNode) (rest others : List ℕ) (k : ℕ) → others ≡ drop k rest → All (λ n. n < length g) rest → All (λ n. n < length g) others
-inside_rest g rest others k back inside = subst (λ (l : List ℕ). All (λ n. n < length g) l) (sym back) (All-drop (λ n. n < length g) k rest inside)
 
 pub inside_some : (g : List FlowNode) (rest some : List ℕ) (k : ℕ) → some ≡ take k rest → All (λ n. n < length g) rest → All (λ n. n < length g) some
 inside_some g rest some k front inside = subst (λ (l : List ℕ). All (λ n. n < length g) l) (sym front) (All-take (λ n. n < length g) k rest inside)

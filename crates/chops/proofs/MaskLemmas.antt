@@ -1,5 +1,5 @@
 -- Words of bits over branches and flooded nodes.
-use Rattle.std.proofs.Common.{◌≡◌, ◌≢◌, ⊎_elim, ℕ, zero, suc, ◌+◌, ◌<◌, ◌^◌, ◌/◌, ◌%◌, Bool, Option, Some, None, List, [], ◌∷◌, length, get_or, refl, sym, ◌∙◌, subst, arith, IsTrue, eq-eqb, eqb-true}
+use Rattle.std.proofs.Common.{◌≡◌, ◌≢◌, ⊎_elim, ℕ, ◌+◌, ◌<◌, ◌^◌, ◌/◌, ◌%◌, Bool, Option, Some, None, List, length, get_or, sym, ◌∙◌, subst, arith, IsTrue, eq-eqb, eqb-true}
 use Rattle.std.specs.Prelude.{◌↔◌, ◌==◌, Contains, slice_get, slice_index, IsSomeAnd, bit_or, bit_and}
 use Rattle.std.proofs.lemmas.List.{get_or_default}
 use Rattle.std.proofs.lemmas.Bool.{cases_eq}
@@ -8,7 +8,7 @@ use Rattle.flow_graph.specs.declared.graph.FlowNode.{FlowNode}
 use Rattle.flow_graph.specs.FlowGraph.{IsAt}
 use Rattle.flow_graph.specs.Rows.{IsBit}
 use Rattle.flow_graph.proofs.BitLemmas.{IsBit-zero, bit_or-cases, bit_or-left, bit_or-right, bit_and-both, bit_and-from}
-use Rattle.flow_graph.proofs.GraphLaws.{Has-from, Has-at}
+use Rattle.flow_graph.proofs.GraphLaws.{Has-from, Has-at, at-within}
 use Rattle.control_walks.specs.ControlWalks.{Controls}
 use Rattle.control_walks.specs.Floods.{Floods, Flooded}
 use Rattle.control_walks.proofs.FloodLemmas.{same_at}
@@ -102,11 +102,6 @@ pub held_rows : (nodes g : List FlowNode) (reaching rows escaping others : List 
 held_rows nodes g reaching rows escaping others held branches word n r e b shows =
     subst (λ (xs : List ℕ). ShowsSome (IsSplit g rows others) xs word) b
     (subst (λ (o : List ℕ). ShowsSome (IsSplit g rows o) held word) e (subst (λ (w : List ℕ). ShowsSome (IsSplit g w escaping) held word) r (subst (λ (ns : List FlowNode). ShowsSome (IsSplit ns reaching escaping) held word) n shows)))
-
-at-within : (g : List FlowNode) (n : ℕ) → n < length g → (at : ℕ) × IsAt g at n
-at-within [] n within = absurd (omega arith)
-at-within (x ∷ xs) zero within = (x.at, refl)
-at-within (x ∷ xs) (suc n) within = at-within xs n (omega arith)
 
 -- after a flood the bits are those of the nodes that the branch controls
 pub split_controls : (g : List FlowNode) (targets : List ℕ) (flooded : Flooded) (b k : ℕ) → ((j : ℕ) → j < length targets → slice_index targets j < length g) → Floods g targets flooded

@@ -1,7 +1,6 @@
 -- The words and rows of a flood.
 use Rattle.std.proofs.Common.{◌≡◌, ◌≢◌, ◌⊎◌, inl, inr, ⊎_elim, ℕ, zero, suc, ◌+◌, ◌*◌, ◌%◌, ◌^◌, ◌<◌, ◌≤◌, Bool, true, false, not, eq-eqb, eqb-true, List, [], ◌∷◌, length, get_or, set, replicate, refl, sym, ◌∙◌, ap, subst, arith, IsTrue, get_or-set_same, get_or-set_other}
 use Rattle.std.specs.Prelude.{◌↔◌, ◌==◌, All, slice_get, slice_index, Some, bit_or}
-use Rattle.std.specs.List.{AllByRecursion}
 use Rattle.std.proofs.lemmas.List.{get_or-replicate}
 use Rattle.std.proofs.lemmas.Nat.Bits.{bit_at_ones, bit_at_lowest}
 use Rattle.std.proofs.lemmas.Bool.{cases_eq}
@@ -12,7 +11,7 @@ use Rattle.flow_graph.proofs.BitLemmas.{IsBit-zero, bit_or-left, set_bit-same, s
 use Rattle.flow_graph.proofs.GraphLaws.{Has-from, Has-at, Has-within, slice_get-at}
 use Rattle.flow_graph.proofs.RowLemmas.{zeros}
 use Rattle.flow_graph.proofs.RowLaws.{comes-by}
-use Rattle.flow_graph.proofs.WalkLaws.{walk-within, inner-within, all-weaker, all-more, all-last}
+use Rattle.flow_graph.proofs.WalkLaws.{walk-within, inner-within, all-weaker, all-more, all-last, all_both}
 use Rattle.control_walks.specs.Floods.{IsTarget, ShowsReaches, ShowsEscapes, ShowsApart}
 
 -- a word with one bit more
@@ -160,10 +159,6 @@ shows-reaches g targets kept begun rows count size all kept_room rows_room few i
             reaches.1;
       })),
 )
-
-all_both : (P Q R : ℕ → Type 0) → ((n : ℕ) → P n → Q n → R n) → (xs : List ℕ) → AllByRecursion P xs → AllByRecursion Q xs → AllByRecursion R xs
-all_both P Q R both [] one two = tt
-all_both P Q R both (x ∷ xs) one two = (both x one.0 two.0, all_both P Q R both xs one.1 two.1)
 
 pub shows-escapes : (g : List FlowNode) (targets kept begun rows : List ℕ) → ((m k at : ℕ) → m < length g → IsTarget g targets k at → HasBit kept m k ↔ Avoids g at m) → ((m k at : ℕ) → IsTarget g targets k at → HasBit begun m k ↔ (IsEnd g m × Avoids g at m)) → ((n k : ℕ) → HasBit rows n k ↔ Comes g kept begun k n) → ShowsEscapes g targets rows
 shows-escapes g targets kept begun rows keeps ends grown m k at target = (

@@ -1,5 +1,5 @@
 -- Branches between the rows of a flood.
-use Rattle.std.proofs.Common.{◌≡◌, ◌≢◌, ⊎_elim, ℕ, zero, suc, ◌+◌, ◌^◌, ◌<◌, ◌≤◌, Bool, not, eq-eqb, eqb-true, List, [], ◌∷◌, length, get_or, take, Some, refl, sym, ◌∙◌, subst, arith, IsTrue}
+use Rattle.std.proofs.Common.{◌≡◌, ◌≢◌, ⊎_elim, ℕ, zero, suc, ◌+◌, ◌^◌, ◌<◌, ◌≤◌, Bool, not, eq-eqb, eqb-true, List, [], ◌∷◌, length, get_or, take, Some, sym, ◌∙◌, subst, arith, IsTrue}
 use Rattle.std.specs.Prelude.{◌↔◌, ◌==◌, Contains, slice_get, slice_index, bit_and}
 use Rattle.std.proofs.lemmas.Bool.{cases_eq}
 use Rattle.std.proofs.lemmas.Nat.{and_le_l}
@@ -8,7 +8,7 @@ use Rattle.flow_graph.specs.declared.graph.FlowNode.{FlowNode}
 use Rattle.flow_graph.specs.FlowGraph.{IsAt}
 use Rattle.flow_graph.specs.Rows.{IsBit}
 use Rattle.flow_graph.proofs.BitLemmas.{some_bit, not_zero, bit_and-both, bit_and-from}
-use Rattle.flow_graph.proofs.GraphLaws.{Has-from, Has-at, Has-within}
+use Rattle.flow_graph.proofs.GraphLaws.{Has-from, Has-at, Has-within, at-within}
 use Rattle.flow_graph.proofs.WalkLaws.{not_true}
 use Rattle.control_walks.specs.ControlWalks.{Controls}
 use Rattle.control_walks.specs.Floods.{Floods, Flooded, Splits, SplitsBy}
@@ -89,11 +89,6 @@ splits-by g reaching escaping b node nexts some here same branch found = (
 
 pub splits-no_branch : (g : List FlowNode) (reaching escaping : List ℕ) (b : ℕ) (node : FlowNode) → slice_get g b ≡ Some node → ¬ IsTrue node.branch → ¬ Splits g reaching escaping b
 splits-no_branch g reaching escaping b node here no_branch s = no_branch (Has-at g b node (λ n. IsTrue n.branch) here s.branches)
-
-at-within : (g : List FlowNode) (n : ℕ) → n < length g → (at : ℕ) × IsAt g at n
-at-within [] n within = absurd (omega arith)
-at-within (x ∷ xs) zero within = (x.at, refl)
-at-within (x ∷ xs) (suc n) within = at-within xs n (omega arith)
 
 pub splits-within : (g : List FlowNode) (reaching escaping : List ℕ) (b : ℕ) → Splits g reaching escaping b → b < length g
 splits-within g reaching escaping b s = Has-within g b (λ n. IsTrue n.branch) s.branches

@@ -1,13 +1,6 @@
 -- The places that are used.
 use Rattle.std.proofs.Common.{◌≡◌, ◌≢◌, ◌⊎◌, inl, inr, ⊎_elim, ℕ, zero, suc, ◌+◌, ◌<◌, ◌≤◌, Bool, true, false, not, cond, List, [], ◌∷◌, ◌++◌, length, get_or, replicate, refl, sym, ◌∙◌, ap, subst, arith, eq-eqb, eqb-true}
 use Rattle.std.specs.Prelude.{◌↔◌, ◌==◌, All, Contains}
-use Rattle.std.specs.List.{dedup}
-use Rattle.std.specs.List.Retain.{IsFiltered, DiffersFromLast}
-use Rattle.std.specs.List.Sorted.{IsPermutation}
-use Rattle.std.proofs.Common.{eqb}
-use Rattle.std.proofs.lemmas.List.Sorted.{Contains-permutation, IsPermutation-sym}
-use Rattle.std.proofs.lemmas.List.Filters.{dedup_is}
-use Rattle.std.proofs.lemmas.List.Kept.{Contains-dedup_nat, Contains-from_dedup}
 use Rattle.std.proofs.lemmas.Bool.{cases_eq}
 use Rattle.std.proofs.lemmas.List.Elements.{Contains-get_or, Contains-append_left, Contains-push, Contains-push_cases}
 use Rattle.flow_graph.specs.declared.graph.FlowNode.{FlowNode}
@@ -79,14 +72,6 @@ used-all g i place all = (
   λ used. (used.0, (used.1.0, used.1.2)),
   λ used. (used.0, (used.1.0, (let within = Has-within g used.1.0 (λ o. Contains o.may_use place) used.1.1 in omega (arith, within, all)), used.1.1)),
 )
-
--- sorting and leaving out repeats keeps each number
-pub sorted-kept : (old sorted new : List ℕ) (place : ℕ) → IsPermutation old sorted → IsFiltered (DiffersFromLast eqb) [] sorted new → Contains new place ↔ Contains old place
-sorted-kept old sorted new place moved filtered =
-    let is : new ≡ dedup eqb sorted = dedup_is eqb sorted new filtered in (
-      λ among. Contains-permutation sorted old place (IsPermutation-sym old sorted moved) (Contains-from_dedup eqb sorted place (subst (λ xs. Contains xs place) is among)),
-      λ among. subst (λ xs. Contains xs place) (sym is) (Contains-dedup_nat sorted place (Contains-permutation old sorted place moved among)),
-    )
 
 -- ---- the two lists of edges
 

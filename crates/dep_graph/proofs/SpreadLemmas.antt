@@ -12,7 +12,7 @@ use Rattle.flow_graph.specs.Rows.{IsBit, HasBit, BeginsAt, Comes}
 use Rattle.flow_graph.specs.Walks.{IsOn}
 use Rattle.flow_graph.proofs.GraphLaws.{Has-from, Has-at, Has-within, slice_get-at}
 use Rattle.flow_graph.proofs.RowLaws.{comes-by}
-use Rattle.flow_graph.proofs.WalkLaws.{inner-within, all_both}
+use Rattle.flow_graph.proofs.WalkLaws.{inner-within, all_both, walk-within}
 use Rattle.dep_graph.specs.DepGraph.{Arrives, DataEdge}
 use Rattle.dep_graph.specs.Edges.{ArrivesAt, Adds, KeepsUnless, IsRowHit, RowHit, EdgeBy}
 use Rattle.dep_graph.proofs.PairLemmas.{adds-then}
@@ -49,10 +49,6 @@ keeping-all g place kept i all keeping m k within small = keeping.keeps m k (ome
 
 -- ---- what arrives
 
-step-within : (g : List FlowNode) (m : ℕ) (inner : List ℕ) (n : ℕ) → Walk g m inner n → m < length g
-step-within g m [] n walk = Has-within g m (λ node. Contains node.next n) walk
-step-within g m (i ∷ inner) n walk = Has-within g m (λ node. Contains node.next i) walk.0
-
 from-walk : (g : List FlowNode) (place : ℕ) (kept begun rows : List ℕ) (m k n : ℕ) (inner : List ℕ) → KeepsUnless g place kept → k < 64 → HasBit begun n k → ((o j : ℕ) → HasBit rows o j ↔ Comes g kept begun j o) → Walk g m inner n → AllByRecursion (λ i. ¬ MustDefine g place i) inner → (next : ℕ) × IsStep g m next × HasBit rows next k
 from-walk g place kept begun rows m k n [] keeps small start grown walk all =
     (n, walk, (grown n k).1 ((comes-by g kept begun k n).1 (record { last = n; begins = start; by = inl refl })))
@@ -63,7 +59,7 @@ from-walk g place kept begun rows m k n (i ∷ inner) keeps small start grown wa
     last = n;
     begins = start;
     by = inr (
-      (keeps i k (step-within g i inner n walk.1) small).1 all.0,
+      (keeps i k (walk-within g i inner n walk.1) small).1 all.0,
       inner,
       walk.1,
       all_both (λ j. j < length g) (λ j. ¬ MustDefine g place j) (λ j. HasBit kept j k) (λ j w free. (keeps j k w small).1 free) inner (inner-within g i inner n walk.1) all.1,
@@ -86,7 +82,7 @@ arrives-by g place kept begun rows targets size m k keeps few room inside begins
               from.0 ∷ walk.1,
               (from.1, subst (λ n. Walk g from.0 walk.1 n) last walk.2),
               (
-                (keeps from.0 k (step-within g from.0 walk.1 led.last walk.2) small).0 walk.0,
+                (keeps from.0 k (walk-within g from.0 walk.1 led.last walk.2) small).0 walk.0,
                 all_both (λ i. i < length g) (λ i. HasBit kept i k) (λ i. ¬ MustDefine g place i) (λ i w has. (keeps i k w small).0 has) walk.1 (inner-within g from.0 walk.1 led.last walk.2) walk.3,
               ),
             ))

@@ -3,11 +3,12 @@ use Rattle.std.proofs.Common.{◌≡◌, ℕ, suc, zero, ◌+◌, ◌-◌, ◌�
 use Rattle.std.proofs.lemmas.List.{length-replicate, length-take}
 use Rattle.std.proofs.lemmas.Bool.Decides.{nat_tests}
 use Rattle.std.proofs.lemmas.Option.{none-some}
+use Rattle.image_map.specs.Shapes.{shape, shapes}
 use Rattle.elf32.specs.declared.error.ElfError.{ElfError}
 use Rattle.elf32.specs.declared.fields.ProgramHeader.{ProgramHeader}
 use Rattle.elf32.specs.Checks.{or_else, own_cause, load_cause, loads_cause, segments_cause, start_of, end_of, is_writable_code}
 use Rattle.elf32.specs.Loading.{segment}
-use Rattle.elf32.specs.Shapes.{shape, shapes, load_shape, AreLow}
+use Rattle.elf32.specs.Shapes.{load_shape, AreLow}
 
 -- a loaded segment of a file of n bytes that is no cause to refuse the file
 pub record IsSound (n b : ℕ) (h : ProgramHeader) : Type 0 where

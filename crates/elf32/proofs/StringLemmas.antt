@@ -3,10 +3,11 @@ use Rattle.std.proofs.Common.{◌≡◌, ℕ, suc, zero, ◌+◌, ◌-◌, ◌�
 use Rattle.std.specs.Prelude.{◌/◌, ◌==◌, slice_get}
 use Rattle.std.specs.List.{cons_option, filter_map, prefix_len, position_or_len}
 use Rattle.std.specs.Option.{option_map, option_map_or}
-use Rattle.std.proofs.lemmas.List.{get_or-drop, get_or_past}
-use Rattle.std.proofs.lemmas.Bool.{cond_both, ltb-true, ltb-false}
+use Rattle.std.proofs.lemmas.List.{get_or-drop, get_or_past, drop-drop}
+use Rattle.std.proofs.lemmas.Bool.{cond_both, ltb-true, ltb-false, le-ltb}
 use Rattle.std.proofs.lemmas.Bool.Decides.{nat_tests}
 use Rattle.std.proofs.lemmas.Option.{slice_get_past}
+use Rattle.std.proofs.Math.Seq.{drop-nil}
 use Rattle.image_map.specs.declared.symbols.SymbolPlace.{SymbolPlace}
 use Rattle.image_map.specs.Names.{Symbol, symbol_at, symbols_at, value_of}
 use Rattle.image_map.specs.Texts.{is_nul, first_text, text_at}
@@ -21,7 +22,6 @@ use Rattle.elf32.specs.Found.{Adds}
 use Rattle.elf32.specs.Loading.{extern_name}
 use Rattle.elf32.specs.Names.{c_string, is_linked, name, string_bytes, symbol_of, symbol_in, symbols_of}
 use Rattle.elf32.specs.Strings.{IsStringLen, linked_bytes, table_at, no_table, AreStrings, name_start, name_from, place_of, placed}
-use Rattle.elf32.proofs.Bytes.{choice}
 
 -- how many bytes stand before the first NUL
 abbrev pub text_len : List ℕ → ℕ
@@ -48,20 +48,11 @@ take_nil : {A : Type 0} (n : ℕ) → take {A = A} n [] ≡ []
 take_nil zero = refl
 take_nil (suc n) = refl
 
-drop_nil : {A : Type 0} (n : ℕ) → drop {A = A} n [] ≡ []
-drop_nil zero = refl
-drop_nil (suc n) = refl
-
 drop_take : {A : Type 0} (n m : ℕ) (xs : List A) → drop n (take m xs) ≡ take (m - n) (drop n xs)
 drop_take zero m xs = let e : m - 0 ≡ m = omega arith in rw e refl
 drop_take (suc n) zero xs = let e : 0 - suc n ≡ 0 = omega arith in rw e refl
 drop_take (suc n) (suc m) [] = sym (take_nil (suc m - suc n))
 drop_take (suc n) (suc m) (x ∷ xs) = let e : suc m - suc n ≡ m - n = omega arith in rw e (drop_take n m xs)
-
-drop_drop : {A : Type 0} (b a : ℕ) (xs : List A) → drop a (drop b xs) ≡ drop (b + a) xs
-drop_drop zero a xs = let e : 0 + a ≡ a = omega arith in rw e refl
-drop_drop (suc b) a [] = drop_nil a ∙ sym (drop_nil (suc b + a))
-drop_drop (suc b) a (x ∷ xs) = let e : suc b + a ≡ suc (b + a) = omega arith in rw e (drop_drop b a xs)
 
 -- -- Texts
 
@@ -75,14 +66,11 @@ c_form xs = form_go (nat_lt (text_len xs) (length xs)) (text_len xs) xs
 below : (z n : ℕ) → z < n → nat_lt z n ≡ true
 below z n h = grind (arith, nat_tests)
 
-past : (z n : ℕ) → n ≤ z → nat_lt z n ≡ false
-past z n h = grind (arith, nat_tests)
-
 c_at : (xs : List ℕ) → text_len xs < length xs → c_string xs ≡ first_text xs
 c_at xs lt = c_form xs ∙ ap (λ t. cond t (first_text xs) []) (below (text_len xs) (length xs) lt)
 
 c_none : (xs : List ℕ) → length xs ≤ text_len xs → c_string xs ≡ []
-c_none xs le = c_form xs ∙ ap (λ t. cond t (first_text xs) []) (past (text_len xs) (length xs) le)
+c_none xs le = c_form xs ∙ ap (λ t. cond t (first_text xs) []) (le-ltb (text_len xs) (length xs) le)
 
 here_go : (b : Bool) (n : ℕ) → b ≡ true → cond (not b) (1 + n) 0 ≤ 0
 here_go true n h = omega arith
@@ -112,7 +100,7 @@ empty_go false x ys h = absurd (cc)
 
 -- where a NUL stands, or nothing, there is no text
 starts_empty : (buffer : List ℕ) (s : ℕ) → get_or buffer s 0 ≡ 0 → [] ≡ text_at buffer s
-starts_empty [] s h = ap first_text (sym (drop_nil s))
+starts_empty [] s h = ap first_text (sym (drop-nil s))
 starts_empty (x ∷ xs) zero h = empty_go (is_nul x) x (first_text xs) (eq-eqb x 0 h) ∙ sym (first_text-cons x xs)
 starts_empty (x ∷ xs) (suc s) h = starts_empty xs s h
 
@@ -140,7 +128,7 @@ in_table part buffer start len at lt h same =
     let m : ℕ = len - at in
     let z : ℕ = text_len ys in
     let alike : take m zs ≡ take m ys =
-    sym (drop_take at len (drop start buffer) ∙ ap (λ v. take m v) (drop_drop start at buffer)) ∙ (ap (λ v. drop at v) same ∙ drop_take at len part) in
+    sym (drop_take at len (drop start buffer) ∙ ap (λ v. take m v) (drop-drop at start buffer)) ∙ (ap (λ v. drop at v) same ∙ drop_take at len part) in
     let all : length ys ≡ length part - at = length-drop at part in
     let within : len ≤ length part = h.within in
     let last : get_or part (len - 1) 0 ≡ 0 = h.last (len - 1) (omega arith) in
@@ -164,9 +152,9 @@ pub table_name : (part buffer : List ℕ) (t : StringTable) (at : ℕ) → IsStr
 unfolding name_start
 table_name part buffer t at h same =
     let p : ℕ = t.start + at in
-    choice {A = Option ℕ} (nat_lt at t.len) (cond (get_or buffer p 0 == 0) None (Some p)) None (λ o. name_from buffer o ≡ c_string (drop at part))
+    cond_both {A = Option ℕ} (nat_lt at t.len) (cond (get_or buffer p 0 == 0) None (Some p)) None (λ o. name_from buffer o ≡ c_string (drop at part))
     (λ yea. let there : text_at buffer p ≡ c_string (drop at part) = in_table part buffer t.start t.len at (ltb-true _ _ yea) h same in
-    choice {A = Option ℕ} (get_or buffer p 0 == 0) None (Some p) (λ o. name_from buffer o ≡ c_string (drop at part))
+    cond_both {A = Option ℕ} (get_or buffer p 0 == 0) None (Some p) (λ o. name_from buffer o ≡ c_string (drop at part))
     (λ nul. starts_empty buffer p (eqb-true _ _ nul) ∙ there)
     (λ other. there))
     (λ nay. out_table part t.len at (ltb-false _ _ nay) h)
@@ -186,8 +174,8 @@ place_name : (b : ℕ) (buffer : List ℕ) (t : StringTable) (e : SymbolEntry) �
 unfolding name_start
 place_name b buffer t e =
     let p : ℕ = t.start + e.st_name in
-    choice {A = Option ℕ} (nat_lt e.st_name t.len) (cond (get_or buffer p 0 == 0) None (Some p)) None (λ o. option_map (symbol_at buffer) (place_of b o e) ≡ symbol_of b (name_from buffer o) e)
-    (λ yea. choice {A = Option ℕ} (get_or buffer p 0 == 0) None (Some p) (λ o. option_map (symbol_at buffer) (place_of b o e) ≡ symbol_of b (name_from buffer o) e)
+    cond_both {A = Option ℕ} (nat_lt e.st_name t.len) (cond (get_or buffer p 0 == 0) None (Some p)) None (λ o. option_map (symbol_at buffer) (place_of b o e) ≡ symbol_of b (name_from buffer o) e)
+    (λ yea. cond_both {A = Option ℕ} (get_or buffer p 0 == 0) None (Some p) (λ o. option_map (symbol_at buffer) (place_of b o e) ≡ symbol_of b (name_from buffer o) e)
     (λ nul. refl)
     (λ other. from_go b buffer p e other))
     (λ nay. refl)
@@ -200,7 +188,7 @@ no_section f ss link le = rw (slice_get_past ss link le) refl
 
 none_start : (buffer : List ℕ) (at : ℕ) → name_start buffer no_table at ≡ None
 unfolding name_start
-none_start buffer at = rw (past at 0 (omega arith)) refl
+none_start buffer at = rw (le-ltb at 0 (omega arith)) refl
 
 linked_is : (f : List ℕ) (ss : List SectionHeader) (link : ℕ) → is_linked ss link ≡ true → linked_bytes f ss link ≡ string_bytes f ss link
 linked_is f ss link h = ap (λ b. cond b (string_bytes f ss link) []) h
@@ -209,7 +197,7 @@ linked_is f ss link h = ap (λ b. cond b (string_bytes f ss link) []) h
 pub strings_name : (f : List ℕ) (ss : List SectionHeader) (buffer : List ℕ) (tables : List StringTable) (link at : ℕ) → AreStrings f ss buffer tables → is_linked ss link ≡ true
     → name_from buffer (name_start buffer (table_at tables link) at) ≡ name f ss link at
 strings_name f ss buffer tables link at h linked =
-    choice {A = Bool} (nat_lt link (length ss)) true true (λ _. name_from buffer (name_start buffer (table_at tables link) at) ≡ name f ss link at)
+    cond_both {A = Bool} (nat_lt link (length ss)) true true (λ _. name_from buffer (name_start buffer (table_at tables link) at) ≡ name f ss link at)
     (λ yea. let t = h.tables.each link (ltb-true _ _ yea) in
     table_name (linked_bytes f ss link) buffer (table_at tables link) at t.len t.same ∙ ap (λ v. c_string (drop at v)) (linked_is f ss link linked))
     (λ nay. let le : length ss ≤ link = ltb-false _ _ nay in
@@ -217,7 +205,7 @@ strings_name f ss buffer tables link at h linked =
     let none : table_at tables link ≡ no_table = get_or_past tables link no_table (omega (arith, all, le)) in
     ap (λ t. name_from buffer (name_start buffer t at)) none
     ∙ (ap (name_from buffer) (none_start buffer at)
-    ∙ (ap c_string (sym (drop_nil at)) ∙ ap (λ v. c_string (drop at v)) (sym (no_section f ss link le)))))
+    ∙ (ap c_string (sym (drop-nil at)) ∙ ap (λ v. c_string (drop at v)) (sym (no_section f ss link le)))))
 
 -- and so is the symbol of an entry
 pub strings_symbol : (f : List ℕ) (b : ℕ) (ss : List SectionHeader) (buffer : List ℕ) (tables : List StringTable) (t : SectionHeader) → AreStrings f ss buffer tables → is_linked ss t.sh_link ≡ true

@@ -5,12 +5,12 @@ use Rattle.std.specs.List.{list_any}
 use Rattle.std.specs.Option.{option_and_then, option_map_or}
 use Rattle.std.proofs.lemmas.List.{length-take, length-append, get_or_append_left}
 use Rattle.std.proofs.Math.Seq.{drop-append_seam, get_or-append_seam}
+use Rattle.std.proofs.lemmas.Bool.{cond_both, or_right}
 use Rattle.elf32.specs.declared.fields.SectionHeader.{SectionHeader}
 use Rattle.elf32.specs.declared.strings.StringTable.{StringTable}
 use Rattle.elf32.specs.Checks.{has_type}
 use Rattle.elf32.specs.Names.{is_linked, string_bytes}
 use Rattle.elf32.specs.Strings.{IsStringLen, linked_bytes, IsTable, table_at, no_table, HaveTables}
-use Rattle.elf32.proofs.Bytes.{choice}
 use Rattle.elf32.proofs.StringLemmas.{take_take}
 
 take_front : (len : ℕ) (xs more : List ℕ) → len ≤ length xs → take len (xs ++ more) ≡ take len xs
@@ -44,7 +44,7 @@ tables_more f ss old new tables t n each all here =
     let more : length (tables ++ t ∷ []) ≡ length tables + 1 = length-append tables (t ∷ []) in
     record {
       all = omega (arith, more, all);
-      each = λ i lt. choice {A = Bool} (eqb i n) true true (λ _. IsTable f ss new i (table_at (tables ++ t ∷ []) i))
+      each = λ i lt. cond_both {A = Bool} (eqb i n) true true (λ _. IsTable f ss new i (table_at (tables ++ t ∷ []) i))
           (λ yea. let e : i ≡ n = eqb-true i n yea in
           let seam : table_at (tables ++ t ∷ []) n ≡ t = ap (λ k. get_or (tables ++ t ∷ []) k no_table) (sym all) ∙ get_or-append_seam tables t [] no_table in
           subst (λ k. IsTable f ss new k (table_at (tables ++ t ∷ []) k)) (sym e) (subst (λ u. IsTable f ss new n u) (sym seam) here))
@@ -103,33 +103,19 @@ file_more f ss part tables n len s at is h tables_are =
 
 -- -- Sections that are linked
 
-any_go : (a b : Bool) → b ≡ true → (a || b) ≡ true
-any_go true b h = refl
-any_go false b h = h
-
 -- each section links the one that it names
 pub links : (ss left : List SectionHeader) (s : SectionHeader) (n : ℕ) → drop n ss ≡ s ∷ left → is_linked ss s.sh_link ≡ true
 links [] left s zero h = absurd (cc)
 links [] left s (suc n) h = absurd (cc)
 links (t ∷ ts) left s zero h = let e : t ≡ s = ap (λ v. get_or v 0 s) h in ap (λ (b : Bool). b || list_any (λ (u : SectionHeader). u.sh_link == s.sh_link) ts) (eq-eqb t.sh_link s.sh_link (ap (λ (u : SectionHeader). u.sh_link) e))
-links (t ∷ ts) left s (suc n) h = any_go (t.sh_link == s.sh_link) _ (links ts left s n h)
+links (t ∷ ts) left s (suc n) h = or_right (t.sh_link == s.sh_link) _ (links ts left s n h)
 
 pub links_at : (ss : List SectionHeader) (s : SectionHeader) (n : ℕ) → slice_get ss n ≡ Some s → is_linked ss s.sh_link ≡ true
 links_at [] s n h = absurd (cc)
 links_at (t ∷ ts) s zero h = let e : t.sh_link ≡ s.sh_link = ap (λ o. option_map_or (λ (u : SectionHeader). u.sh_link) o 0) h in ap (λ (b : Bool). b || list_any (λ (u : SectionHeader). u.sh_link == s.sh_link) ts) (eq-eqb t.sh_link s.sh_link e)
-links_at (t ∷ ts) s (suc n) h = any_go (t.sh_link == s.sh_link) _ (links_at ts s n h)
+links_at (t ∷ ts) s (suc n) h = or_right (t.sh_link == s.sh_link) _ (links_at ts s n h)
 
 -- -- What the code has found and put together
-
-pub got : {A : Type 0} (xs : List A) (i : ℕ) (x : A) → i < length xs → x ≡ get_or xs i x → slice_get xs i ≡ Some x
-got [] i x lt is = absurd (omega arith)
-got (y ∷ ys) zero x lt is = ap (λ v. Some v) (sym is)
-got (y ∷ ys) (suc i) x lt is = got ys i x (omega arith) is
-
-pub get_some : {A : Type 0} (xs : List A) (i : ℕ) (d : A) → i < length xs → slice_get xs i ≡ Some (get_or xs i d)
-get_some [] i d lt = absurd (omega arith)
-get_some (y ∷ ys) zero d lt = refl
-get_some (y ∷ ys) (suc i) d lt = get_some ys i d (omega arith)
 
 pub joined_next : (f : List ℕ) (ss : List SectionHeader) (buffer part new : List ℕ) (tables made : List StringTable) (n len start : ℕ)
     → made ≡ tables ++ record { start = start; len = len } ∷ [] → new ≡ buffer ++ take len part → start ≡ length buffer → part ≡ linked_bytes f ss n → IsStringLen part len

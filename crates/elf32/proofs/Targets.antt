@@ -3,6 +3,7 @@ use Rattle.std.proofs.Common.{◌≡◌, ℕ, ◌+◌, ◌≤◌, ◌<◌, Bool,
 use Rattle.std.specs.List.{list_any, find}
 use Rattle.std.proofs.lemmas.Bool.Decides.{nat_tests}
 use Rattle.std.proofs.lemmas.Option.{none-some}
+use Rattle.std.proofs.lemmas.Bool.{or_right}
 use Rattle.elf32.specs.declared.fields.ProgramHeader.{ProgramHeader}
 use Rattle.elf32.specs.Checks.{end_of}
 use Rattle.elf32.specs.Relocating.{has_word}
@@ -19,17 +20,13 @@ found_go : {A : Type 0} (t : Bool) (x y : A) (rest : Option A) (P : Type 0) → 
 found_go true x y rest P h here there = here refl (cc)
 found_go false x y rest P h here there = there refl h
 
-or_true : (a b : Bool) → b ≡ true → (a || b) ≡ true
-or_true true b h = refl
-or_true false b h = h
-
 -- each byte of the word lies in a segment
 pub target_whole : (b place : ℕ) (hs : List ProgramHeader) (g : ProgramHeader) → find (has_word b place) hs ≡ Some g → has_whole_word (map (load_shape b) hs) place
 target_whole b place [] g h = λ k lt. absurd (none-some g h)
 target_whole b place (x ∷ hs) g h = λ k lt.
     found_go (has_word b place x) x g (find (has_word b place) hs) (list_any (in_shape (place + k)) (map (load_shape b) (x ∷ hs)) ≡ true) h
     (λ w e. ap (λ v. v || list_any (in_shape (place + k)) (map (load_shape b) hs)) (in_word b place k x w lt))
-    (λ w e. or_true (in_shape (place + k) (load_shape b x)) _ (target_whole b place hs g e k lt))
+    (λ w e. or_right (in_shape (place + k) (load_shape b x)) _ (target_whole b place hs g e k lt))
 
 -- the word ends in its segment
 pub target_inside : (b place : ℕ) (hs : List ProgramHeader) (g : ProgramHeader) → find (has_word b place) hs ≡ Some g → place + 4 ≤ end_of b g

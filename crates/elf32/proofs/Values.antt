@@ -6,7 +6,7 @@ use Rattle.std.specs.Option.{option_map, option_map_or}
 use Rattle.std.proofs.lemmas.Option.{none-some}
 use Rattle.std.specs.Str.{bytes_eq}
 use Rattle.std.specs.Cmp.Lexicographic.{same_text}
-use Rattle.std.proofs.lemmas.Bool.{eqb-true}
+use Rattle.std.proofs.lemmas.Bool.{eqb-true, cond_both}
 use Rattle.std.proofs.lemmas.List.{append-nil, map-append, length-set, length-replicate, get_or-set_other}
 use Rattle.image_map.specs.declared.symbols.SymbolPlace.{SymbolPlace}
 use Rattle.image_map.specs.Names.{Symbol, symbol_at, symbols_at, value_of, HaveSameValues}
@@ -16,7 +16,6 @@ use Rattle.elf32.specs.declared.strings.StringTable.{StringTable}
 use Rattle.elf32.specs.Fields.{rows, rows_from}
 use Rattle.elf32.specs.Strings.{name_start, place_of, placed}
 use Rattle.elf32.specs.Found.{IsFound, Adds}
-use Rattle.elf32.proofs.Bytes.{choice}
 use Rattle.elf32.proofs.Rows.{rows_step, rows_end}
 
 -- the first of two values
@@ -76,7 +75,7 @@ pub found_push : (buffer : List ℕ) (seen : List Bool) (kept : List Symbol) (st
     → IsFound buffer seen kept → IsFound buffer (slice_set seen start true) (kept ++ s ∷ [])
 found_push buffer seen kept start s lt named found = record {
   all = length-set seen start true ∙ found.all;
-  each = λ p h. choice {A = Bool} (eqb p start) true true (λ _. is_some (value_of (kept ++ s ∷ []) (text_at buffer p)) ≡ true)
+  each = λ p h. cond_both {A = Bool} (eqb p start) true true (λ _. is_some (value_of (kept ++ s ∷ []) (text_at buffer p)) ≡ true)
       (λ t. let e : p ≡ start = eqb-true p start t in
       let n : s.name ≡ text_at buffer p = named ∙ ap (text_at buffer) (sym e) in
       let own : is_some (value_of (s ∷ []) s.name) ≡ true = ap is_some (head_value s [] s.name ∙ ap (λ b. cond b (Some s.value) None) (same_self s.name)) in

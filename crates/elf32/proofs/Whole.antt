@@ -2,7 +2,7 @@
 use Rattle.std.proofs.Common.{◌≡◌, ◌⊎◌, inl, inr, ℕ, suc, ◌+◌, ◌≤◌, Bool, true, false, cond, ◌&&◌, ◌||◌, nat_lt, Option, Some, None, Result, Ok, Err, List, [], ◌∷◌, ◌++◌, refl, ap, sym, subst, ◌∙◌, arith, map, length}
 use Rattle.std.specs.Prelude.{bit_and, ◌==◌}
 use Rattle.std.specs.List.{find}
-use Rattle.std.proofs.lemmas.Bool.{ltb-false}
+use Rattle.std.proofs.lemmas.Bool.{ltb-false, cond_both}
 use Rattle.std.proofs.lemmas.Bool.Decides.{nat_tests}
 use Rattle.std.proofs.lemmas.List.{length-map}
 use Rattle.std.proofs.lemmas.Option.{none-some}
@@ -10,6 +10,7 @@ use Rattle.image_map.specs.declared.image.Segment.{Segment}
 use Rattle.image_map.specs.declared.image.Image.{Image}
 use Rattle.image_map.specs.declared.image.Extern.{Extern}
 use Rattle.image_map.specs.Whole.{IsApartFrom, ArePlaced, IsImage}
+use Rattle.image_map.specs.Shapes.{Shape, shape, shapes}
 use Rattle.elf32.specs.declared.error.ElfError.{ElfError}
 use Rattle.elf32.specs.declared.error.ElfError.TheVariants as errors
 use Rattle.elf32.specs.declared.fields.ProgramHeader.{ProgramHeader}
@@ -17,9 +18,8 @@ use Rattle.elf32.specs.declared.fields.SymbolEntry.{SymbolEntry}
 use Rattle.elf32.specs.declared.fields.Relocation.{Relocation}
 use Rattle.elf32.specs.Checks.{or_else, when, overlap, shares_address, own_cause, load_cause, loads_cause, segments_cause, start_of, end_of, memory_of, wrong_segments, bias, loads, sections}
 use Rattle.elf32.specs.Relocating.{Relocated, step, step_at, step_with, relocated, and_then, externs_after, is_kind, target}
-use Rattle.elf32.specs.Shapes.{Shape, shape, shapes, load_shape}
+use Rattle.elf32.specs.Shapes.{load_shape}
 use Rattle.elf32.specs.Loading.{extern_name, outcome, begun, relocations, Shows}
-use Rattle.elf32.proofs.Bytes.{choice}
 use Rattle.elf32.proofs.Sound.{neither, own_sound}
 
 record IsPlacedShape (s : Shape) : Type 0 where
@@ -73,7 +73,7 @@ overlap_none h (Some g) e = absurd (none-some _ (sym e))
 
 apart_go : (s t e f : ℕ) → (nat_lt t e && nat_lt s f) ≡ false → (e ≤ t) ⊎ (f ≤ s)
 apart_go s t e f h =
-    choice {A = Bool} (nat_lt t e) true true (λ _. (e ≤ t) ⊎ (f ≤ s))
+    cond_both {A = Bool} (nat_lt t e) true true (λ _. (e ≤ t) ⊎ (f ≤ s))
     (λ yea. inr (ltb-false s f (ap (λ v. v && nat_lt s f) (sym yea) ∙ h)))
     (λ nay. inl (ltb-false t e nay))
 

@@ -8,6 +8,7 @@ use Rattle.image_map.specs.declared.image.Extern.{Extern}
 use Rattle.image_map.specs.declared.image.Image.{Image}
 use Rattle.image_map.specs.Memory.{byte_of}
 use Rattle.image_map.specs.Names.{value_of}
+use Rattle.image_map.specs.Shapes.{shapes}
 use Rattle.elf32.specs.declared.error.ElfError.{ElfError}
 use Rattle.elf32.specs.declared.fields.ProgramHeader.{ProgramHeader}
 use Rattle.elf32.specs.declared.fields.SectionHeader.{SectionHeader}
@@ -17,7 +18,7 @@ use Rattle.elf32.specs.Fields.{e_entry, symbol_entry}
 use Rattle.elf32.specs.Checks.{or_else, no_header, wrong_identity, wrong_header, short_tables, wrong_segments, short_sections, bias, loads, sections, start_of}
 use Rattle.elf32.specs.Names.{name, symbols}
 use Rattle.elf32.specs.Relocating.{Relocated, relocated, relocations_of}
-use Rattle.elf32.specs.Shapes.{shapes, load_shape}
+use Rattle.elf32.specs.Shapes.{load_shape}
 
 -- a segment before relocation: its bytes in the file, and zeros after them
 abbrev pub segment : List ℕ → ℕ → ProgramHeader → Segment

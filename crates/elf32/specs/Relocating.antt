@@ -3,7 +3,7 @@ use Rattle.std.specs.Prelude.{ℕ, ◌≡◌, suc, ◌+◌, ◌*◌, ◌-◌, �
 use Rattle.std.specs.List.{list_any}
 use Rattle.std.specs.Option.{option_and_then, option_map, option_map_or}
 use Rattle.image_map.specs.Names.{extern_address}
-use Rattle.image_map.specs.Ranges.{within}
+use Rattle.item_list.specs.Ranges.{within}
 use Rattle.elf32.specs.declared.error.ElfError.{ElfError}
 use Rattle.elf32.specs.declared.error.ElfError.TheVariants as errors
 use Rattle.elf32.specs.declared.fields.ProgramHeader.{ProgramHeader}

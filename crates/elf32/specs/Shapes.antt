@@ -1,20 +1,9 @@
 -- What relocations leave of segments: where they stand, how long they are, and their flags. The project's own.
-use Rattle.std.specs.Prelude.{ℕ, ◌≡◌, ◌+◌, ◌-◌, ◌<◌, ◌≤◌, Bool, true, ◌&&◌, nat_le, nat_lt, List, [], ◌∷◌, length, map}
+use Rattle.std.specs.Prelude.{ℕ, ◌≡◌, ◌+◌, ◌-◌, ◌<◌, ◌≤◌, Bool, true, ◌&&◌, nat_le, nat_lt, List, [], ◌∷◌}
 use Rattle.std.specs.List.{list_any}
-use Rattle.image_map.specs.declared.image.Segment.{Segment}
+use Rattle.image_map.specs.Shapes.{Shape}
 use Rattle.elf32.specs.declared.fields.ProgramHeader.{ProgramHeader}
 use Rattle.elf32.specs.Checks.{start_of, end_of}
-
-pub record Shape : Type 0 where
-  pub start : ℕ
-  pub len : ℕ
-  pub flags : ℕ
-
-abbrev pub shape : Segment → Shape
-shape s = record { start = s.start; len = length s.bytes; flags = s.flags }
-
-abbrev pub shapes : List Segment → List Shape
-shapes segments = map shape segments
 
 -- an address lies in a segment of this shape
 abbrev pub in_shape : ℕ → Shape → Bool

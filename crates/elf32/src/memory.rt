@@ -2,8 +2,9 @@
 ghost use Rattle.std.specs.Prelude.{◌≡◌, ℕ, ◌+◌, ◌-◌, ◌*◌, ◌/◌, ◌%◌, ◌^◌, ◌<◌, ◌≤◌, ◌==◌, if◌then◌else◌, Some, None, true, position, OnOk, OnErr};
 ghost use Rattle.std.specs.List.{list_any};
 ghost use Rattle.image_map.specs.Memory.{holds, byte_in, byte_of};
+ghost use Rattle.image_map.specs.Shapes.{shapes};
 ghost use Rattle.elf32.specs.Relocating.{stored, lost, word_in, added};
-ghost use Rattle.elf32.specs.Shapes.{shapes, in_shape, has_whole_word};
+ghost use Rattle.elf32.specs.Shapes.{in_shape, has_whole_word};
 
 use image_map::{Segment, Spans, memory_byte};
 use std::alloc::{AllocError, Global};

@@ -6,11 +6,12 @@ ghost use Rattle.image_map.specs.Whole.{IsImage};
 ghost use Rattle.elf32.specs.declared.error.ElfError.TheVariants as errors;
 ghost use Rattle.elf32.specs.Checks.{bias as bias_of, loads as loads_of, sections as sections_of, segments_cause};
 ghost use Rattle.image_map.specs.Texts.{text_at};
+ghost use Rattle.image_map.specs.Shapes.{shapes};
 ghost use Rattle.elf32.specs.Strings.{AreStrings};
 ghost use Rattle.elf32.specs.Loading.{header_failure, begun, extern_name, failure, Shows, Loads};
 ghost use Rattle.elf32.specs.Programs.{shown};
 ghost use Rattle.elf32.specs.Relocating.{relocated, relocations_of};
-ghost use Rattle.elf32.specs.Shapes.{shapes, load_shape};
+ghost use Rattle.elf32.specs.Shapes.{load_shape};
 
 use crate::checks::{
     E_ENTRY, bias, loads, no_header, sections, sections_end_outside, segments_cause, short_tables,

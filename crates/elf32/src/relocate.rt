@@ -3,11 +3,12 @@ ghost use Rattle.std.specs.Prelude.{◌≡◌, ℕ, ◌+◌, ◌/◌, ◌<◌, �
 ghost use Rattle.std.specs.List.{flat_map, list_any};
 ghost use Rattle.std.specs.Option.{option_copied};
 ghost use Rattle.image_map.specs.Memory.{byte_of};
+ghost use Rattle.image_map.specs.Shapes.{shapes};
 ghost use Rattle.elf32.specs.declared.error.ElfError.TheVariants as errors;
 ghost use Rattle.elf32.specs.Fields.{rows};
 ghost use Rattle.elf32.specs.Checks.{end_of, has_type};
 ghost use Rattle.elf32.specs.Names.{section_of};
-ghost use Rattle.elf32.specs.Shapes.{shapes, load_shape, AreLow, has_whole_word};
+ghost use Rattle.elf32.specs.Shapes.{load_shape, AreLow, has_whole_word};
 ghost use Rattle.elf32.specs.Relocating.{place_of, has_word, target, is_kind, uses_symbol, is_undefined, same_symbol, externs_after, symbol_value, memory_after, words_after, step_at, step, relocated, relocation, linked_table as table_of, relocations_of, Advances, Stops};
 ghost use Rattle.elf32.specs.Programs.{shown};
 

@@ -1,8 +1,8 @@
 -- What is said of a node by its number, at the node itself.
-use Rattle.std.proofs.Common.{◌≡◌, ℕ, zero, suc, ◌<◌, List, [], ◌∷◌, length, get_or, Some, sym, subst, arith}
+use Rattle.std.proofs.Common.{◌≡◌, ℕ, zero, suc, ◌<◌, List, [], ◌∷◌, length, get_or, Some, refl, sym, subst, arith}
 use Rattle.std.specs.Prelude.{slice_get, IsSomeAnd}
 use Rattle.flow_graph.specs.declared.graph.FlowNode.{FlowNode}
-use Rattle.flow_graph.specs.FlowGraph.{Has}
+use Rattle.flow_graph.specs.FlowGraph.{Has, IsAt}
 
 -- a read within the list
 pub slice_get-at : {X : Type 0} (xs : List X) (i : ℕ) (x : X) → i < length xs → x ≡ get_or xs i x → slice_get xs i ≡ Some x
@@ -21,3 +21,9 @@ pub Has-within : (g : List FlowNode) (n : ℕ) (P : FlowNode → Type 0) → Has
 Has-within [] n P has = absurd has
 Has-within (x ∷ xs) zero P has = omega arith
 Has-within (x ∷ xs) (suc n) P has = let within = Has-within xs n P has in omega (arith, within)
+
+-- a node that is there has an address
+pub at-within : (g : List FlowNode) (n : ℕ) → n < length g → (at : ℕ) × IsAt g at n
+at-within [] n within = absurd (omega arith)
+at-within (x ∷ xs) zero within = (x.at, refl)
+at-within (x ∷ xs) (suc n) within = at-within xs n (omega arith)

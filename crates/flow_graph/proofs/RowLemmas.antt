@@ -3,7 +3,7 @@ use Rattle.std.proofs.Common.{◌≡◌, ◌≢◌, ◌⊎◌, inl, inr, ⊎_eli
 use Rattle.std.specs.Prelude.{◌↔◌, Contains, slice_get, bit_or, bit_and, Some}
 use Rattle.std.proofs.lemmas.List.{get_or_default, get_or_past, get_or-replicate, length-replicate}
 use Rattle.std.proofs.lemmas.List.Sums.{sum_by-set}
-use Rattle.std.proofs.lemmas.Bool.{cases_eq}
+use Rattle.std.proofs.lemmas.Bool.{cases_eq, or_parts}
 use Rattle.std.proofs.lemmas.Bool.Decides.{leb_tells}
 use Rattle.flow_graph.specs.declared.graph.FlowNode.{FlowNode}
 use Rattle.flow_graph.specs.FlowGraph.{IsStep}
@@ -142,10 +142,6 @@ swept-none g kept old = record {
   settled = λ _ n below. absurd (omega (arith, below));
 }
 
-both_false : (a b : Bool) → (a || b) ≡ false → (a ≡ false) × (b ≡ false)
-both_false true b is = absurd (cc)
-both_false false b is = (refl, is)
-
 true_or : (b : Bool) → (b ≡ false) ⊎ (b ≡ true)
 true_or true = inr refl
 true_or false = inl refl
@@ -160,7 +156,7 @@ swept-more g kept old mid new changed rose i swept by here =
     record {
       by = record {
         grows = λ begun grows. by.grows begun (swept.by.grows begun grows);
-        stays = λ no. let both = both_false changed rose no in by.stays both.1 ∙ swept.by.stays both.0;
+        stays = λ no. let both = or_parts changed rose no in by.stays both.1 ∙ swept.by.stays both.0;
         less = λ other.
             ⊎_elim (λ no. ⊎_elim (λ not_rose. absurd (other (ap (λ b. b || rose) no ∙ not_rose)))
             (λ is. let less = by.less (true_not rose is) in omega (arith, less, no_less))
@@ -169,7 +165,7 @@ swept-more g kept old mid new changed rose i swept by here =
             (true_or changed);
       };
       settled = λ no n below.
-          let both = both_false changed rose no in
+          let both = or_parts changed rose no in
           ⊎_elim (λ same. subst (λ m. IsSettledAt g kept new m) (sym same) (here both.1))
           (λ off. subst (λ rows. IsSettledAt g kept rows n) (sym (by.stays both.1)) (swept.settled both.0 n (let off2 : n ≢ i = off in omega (arith, below, off2))))
           (cases_eq n i);

@@ -1,8 +1,8 @@
 -- The forms of the opcode map end in numbers of 0, 1, 2 or 4 bytes, and each has an operand that its prefixes
 -- can't refuse.
 
-use Rattle.std.proofs.Common.{◌≡◌, ℕ, ◌%◌, ◌/◌, ◌≤◌, ◌⊎◌, Bool, true, false, not, ◌==◌, ◌&&◌, ◌||◌, nat_le, nat_lt, refl, Option, Some, None, option_map, lit≤, inl, inr}
-use Rattle.std.proofs.lemmas.Bool.{cond_both, eqb-true}
+use Rattle.std.proofs.Common.{◌≡◌, ℕ, ◌%◌, ◌/◌, ◌≤◌, Bool, true, false, not, ◌==◌, ◌&&◌, ◌||◌, nat_le, nat_lt, refl, Option, Some, None, option_map, lit≤, inl, inr}
+use Rattle.std.proofs.lemmas.Bool.{cond_both, eqb-true, not-true, or_cases, and_parts}
 use Rattle.ia32_types.specs.declared.Op.{Op}
 use Rattle.ia32_types.specs.declared.Op.TheVariants as op
 use Rattle.ia32_types.specs.declared.forms.Size.{Size}
@@ -202,15 +202,11 @@ good_digit_by o s r group.Step n =
 pub good_digit : (p : Prefixes) (g : Group) (n : ℕ) → IsGoodDigit p g (group_form g n)
 good_digit p g n = good_digit_by p.operand16 p.segment p.repeat g n
 
-either : (a b : Bool) → (a || b) ≡ true → (a ≡ true) ⊎ (b ≡ true)
-either true b h = inl refl
-either false b h = inr h
-
 -- the sizes at the end of a good form
 size_of : (n : ℕ) → is_size n ≡ true → IsSize n
-size_of n h = elim (either (n == 0 || n == 1 || n == 2) (n == 4) h) [
-  | inl a ↦ elim (either (n == 0 || n == 1) (n == 2) a) [
-    | inl b ↦ elim (either (n == 0) (n == 1) b) [
+size_of n h = elim (or_cases (n == 0 || n == 1 || n == 2) (n == 4) h) [
+  | inl a ↦ elim (or_cases (n == 0 || n == 1) (n == 2) a) [
+    | inl b ↦ elim (or_cases (n == 0) (n == 1) b) [
       | inl c ↦ inl (eqb-true n 0 c)
       | inr c ↦ inr (inl (eqb-true n 1 c))
     ]
@@ -219,25 +215,13 @@ size_of n h = elim (either (n == 0 || n == 1 || n == 2) (n == 4) h) [
   | inr a ↦ inr (inr (inr (eqb-true n 4 a)))
 ]
 
-and_left : (a b : Bool) → (a && b) ≡ true → a ≡ true
-and_left true b h = refl
-and_left false b h = cc
-
-and_right : (a b : Bool) → (a && b) ≡ true → b ≡ true
-and_right true b h = h
-and_right false b h = cc
-
-not_true : (a : Bool) → not a ≡ true → a ≡ false
-not_true true h = cc
-not_true false h = refl
-
 size_by : (o : Bool) (f : Form) → is_good f ≡ true → IsSize (form_bytes (width_of f.size o) f)
-size_by true f h = size_of _ (and_left _ _ (and_left _ _ h))
-size_by false f h = size_of _ (and_right _ _ (and_left _ _ h))
+size_by true f h = size_of _ ((and_parts _ _ ((and_parts _ _ h).0)).0)
+size_by false f h = size_of _ ((and_parts _ _ ((and_parts _ _ h).0)).1)
 
 pub good_size : (p : Prefixes) (f : Form) → is_good f ≡ true → IsSize (end_bytes p f)
 good_size p f h = size_by p.operand16 f h
 
 -- memory alone is not written
 pub good_memory : (f : Form) → is_good f ≡ true → (is_memory f.second && stores f) ≡ false
-good_memory f h = not_true _ (and_right _ _ h)
+good_memory f h = not-true _ ((and_parts _ _ h).1)

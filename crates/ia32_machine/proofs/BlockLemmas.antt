@@ -4,7 +4,6 @@ use Rattle.std.specs.Prelude.{Bool, true, false, cond, not, ◌&&◌, ◌||◌, 
 use Rattle.std.proofs.lemmas.Bool.Decides.{nat_tests}
 use Rattle.image_map.specs.declared.image.Image.{Image}
 use Rattle.image_map.specs.declared.region.Block.{Block}
-use Rattle.image_map.specs.Ranges.{within}
 use Rattle.image_map.specs.Queries.{is_in_segment, is_writable}
 use Rattle.image_map.specs.Whole.{IsImage}
 use Rattle.ia32_semantics.specs.State.{Bytes}
@@ -12,6 +11,7 @@ use Rattle.ia32_semantics.specs.Outcome.{IsBlock}
 use Rattle.ia32_memory.specs.Mapped.{Mapped, bytes_of, is_open_at}
 use Rattle.ia32_memory.specs.Changes.{with_zeros}
 use Rattle.ia32_memory.proofs.StartLaws.{segment_low}
+use Rattle.item_list.specs.Ranges.{within}
 use Rattle.ia32_machine.specs.Opens.{KnowsOpen}
 
 high_go : (in_segment : Bool) (a : ℕ) → (in_segment ≡ true → a < 0x7FFFFFFF) → 0x90000000 ≤ a → in_segment ≡ false

@@ -1,12 +1,12 @@
 -- The spans of what fits are the bytes that its effects write and take.
 use Rattle.std.proofs.Common.{◌≡◌, ℕ, zero, suc, ◌+◌, ◌*◌, ◌-◌, ◌%◌, ◌^◌, ◌<◌, ◌≤◌, List, [], ◌∷◌, ◌++◌, refl, sym, ap, ◌∙◌, subst, arith}
 use Rattle.std.specs.Prelude.{Bool, true, false, ◌&&◌, ◌||◌, ◌==◌, is_some, if◌then◌else◌}
-use Rattle.std.proofs.lemmas.Bool.{false≢true}
+use Rattle.std.proofs.lemmas.Bool.{or_right, or_left}
 use Rattle.std.proofs.lemmas.Bool.Decides.{nat_tests}
 use Rattle.std.proofs.lemmas.List.Folds.{list_any-append}
 use Rattle.image_map.specs.declared.image.Image.{Image}
 use Rattle.image_map.specs.declared.spans.Span.{Span}
-use Rattle.image_map.specs.Ranges.{within, is_any}
+use Rattle.image_map.specs.Ranges.{is_any}
 use Rattle.ia32_types.specs.declared.Width.{Width}
 use Rattle.ia32_types.specs.declared.Width.TheVariants.{B8, W16, D32}
 use Rattle.ia32_semantics.specs.declared.flags.FlagsOut.{FlagsOut}
@@ -16,8 +16,8 @@ use Rattle.ia32_semantics.specs.State.{Bytes, Location, AtByte}
 use Rattle.ia32_semantics.specs.Effects.{Effect, Whole, sets, effect_fits, effect_takes, effects_write, effects_take, effects_fit, is_among, is_open, is_mapped, all_among}
 use Rattle.ia32_semantics.specs.Operands.{size, flag_effect, flag_effects}
 use Rattle.ia32_semantics.specs.Strings.{stepped, copied, filled}
-use Rattle.ia32_semantics.proofs.EffectLemmas.{by_test, and_left, and_right}
-use Rattle.ia32_semantics.proofs.ReadingLemmas.{or_left, or_right, same_number}
+use Rattle.ia32_semantics.proofs.EffectLemmas.{and_left, and_right}
+use Rattle.ia32_semantics.proofs.ReadingLemmas.{same_number}
 use Rattle.ia32_memory.specs.Changes.{all_in_elements}
 use Rattle.ia32_memory.proofs.EffectLaws.{bytes_among, filled_fits, copied_fits}
 use Rattle.ia32_plan.specs.declared.entries.Entry.{Entry}
@@ -29,8 +29,10 @@ use Rattle.ia32_plan.specs.declared.words.Reads.{Reads}
 use Rattle.ia32_plan.specs.declared.words.Reads.TheVariants as reads
 use Rattle.ia32_plan.specs.Plans.{entry_effects, all_effects}
 use Rattle.ia32_plan.specs.Views.{covers, has_read}
+use Rattle.ia32_semantics.proofs.ChangeLemmas.{write_append}
+use Rattle.item_list.proofs.RangeLaws.{none_within}
+use Rattle.item_list.specs.Ranges.{within}
 use Rattle.ia32_machine.specs.Touches.{span_of, elements_span, read_span, number_spans, source_spans, target_spans, of_entries, read_spans}
-use Rattle.ia32_machine.proofs.TouchLemmas.{written_by_both}
 use Rattle.ia32_machine.proofs.SpanLemmas.{in_elements, copied_write, copied_take, of_number, filled_write, filled_take, among_within, AreLow, end_low, upwards, downwards, stepped_up, stepped_down}
 
 abbrev pub in_span : Span → ℕ → Bool
@@ -39,9 +41,6 @@ in_span s x = within s.start s.end x
 or_none : (b : Bool) → (b || false) ≡ b
 or_none true = refl
 or_none false = refl
-
-nothing_within : (a x : ℕ) → within a a x ≡ false
-nothing_within a x = by_test (within a a x) (λ e. absurd (let f : within a a x ≡ false = grind (arith, nat_tests) in false≢true (sym f ∙ e))) (λ e. e)
 
 -- as many bytes as a width has
 abbrev one_less : Width → ℕ
@@ -77,13 +76,13 @@ module _ (test : ℕ → Bool) (low : AreLow test) where
 
   by_count : (down : Bool) (y : ℕ) → suc y ≤ 4 → (n a x : ℕ) → all_in_elements test down (suc y) n a ≡ true
       → in_span (elements_span down (suc y) n a) x ≡ in_elements down (suc y) n a x
-  by_count false y small zero a x e = nothing_within a x
+  by_count false y small zero a x e = none_within a x
   by_count false y small (suc n) a x e =
       let up = upwards test low y (suc n) a (is_address false y n a e) e in
       let some : (suc n == 0) ≡ false = grind (arith, nat_tests) in
       ap (λ b. within a (if b then a else stepped false (suc y) (suc n) a) x) some
       ∙ ap (λ k. within a k x) (stepped_up (suc y) (suc n) a up.low) ∙ sym (up.span x)
-  by_count true y small zero a x e = nothing_within (stepped true (suc y) (0 - 1) a) x
+  by_count true y small zero a x e = none_within (stepped true (suc y) (0 - 1) a) x
   by_count true y small (suc m) a x e =
       let down = downwards test low y small m a (is_address true y m a e) e in
       let some : (suc m == 0) ≡ false = grind (arith, nat_tests) in
@@ -108,7 +107,7 @@ no_bytes n out.Kept x = refl
 no_bytes n out.Undefined x = refl
 
 none_of_both : (es fs : List Effect) (l : Location) → effects_write es l ≡ false → effects_write fs l ≡ false → effects_write (es ++ fs) l ≡ false
-none_of_both es fs l p q = written_by_both es fs l ∙ ap (λ b. b || effects_write fs l) p ∙ q
+none_of_both es fs l p q = write_append es fs l ∙ ap (λ b. b || effects_write fs l) p ∙ q
 
 flags_no_bytes : (f : FlagsOut) (x : ℕ) → effects_write (flag_effects f) (AtByte x) ≡ false
 flags_no_bytes f x =
@@ -151,13 +150,13 @@ module _ (image : Image) (memory : Bytes) (low : AreLow (is_mapped memory)) wher
       or_none _
       ∙ elements_are (is_open image memory) open_low down width count to x (and_right (all_in_elements (is_mapped memory) down (size width) count from) _ both)
       ∙ sym (copied_write down (size width) count from to x) ∙ sym (or_none _)
-      ∙ sym (written_by_both (copied down (size width) count from to) (sets Whole 6 (stepped down (size width) count from) ∷ sets Whole 7 (stepped down (size width) count to) ∷ []) (AtByte x))
+      ∙ sym (write_append (copied down (size width) count from to) (sets Whole 6 (stepped down (size width) count from) ∷ sets Whole 7 (stepped down (size width) count to) ∷ []) (AtByte x))
   targets_are (entry.Filled down width value count to) x fits =
       or_none _
       ∙ elements_are (is_open image memory) open_low down width count to x
       (sym (filled_fits image memory down (size width) value count to) ∙ fits_both (filled down (size width) value count to) _ fits)
       ∙ sym (filled_write down (size width) value count to x) ∙ sym (or_none _)
-      ∙ sym (written_by_both (filled down (size width) value count to) (sets Whole 7 (stepped down (size width) count to) ∷ []) (AtByte x))
+      ∙ sym (write_append (filled down (size width) value count to) (sets Whole 7 (stepped down (size width) count to) ∷ []) (AtByte x))
 
   both_spans : (a b : List Span) (x : ℕ) → is_any (a ++ b) x ≡ (is_any a x || is_any b x)
   both_spans a b x = list_any-append (λ s. within s.start s.end x) a b
@@ -170,7 +169,7 @@ module _ (image : Image) (memory : Bytes) (low : AreLow (is_mapped memory)) wher
       both_spans (target_spans a) (target_spans b) x
       ∙ ap (λ t. t || is_any (target_spans b) x) (targets_are a x (fits_both (entry_effects a) (entry_effects b) fits))
       ∙ ap (λ t. effects_write (entry_effects a) (AtByte x) || t) (targets_are b x (fits_later (entry_effects a) (entry_effects b) fits))
-      ∙ sym (written_by_both (entry_effects a) (entry_effects b) (AtByte x))
+      ∙ sym (write_append (entry_effects a) (entry_effects b) (AtByte x))
 
   -- -- What they take
 

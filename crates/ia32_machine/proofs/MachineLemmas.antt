@@ -1,6 +1,7 @@
 -- The machine's step is one of the definitions, and where it faults there is none.
 use Rattle.std.proofs.Common.{◌≡◌, ℕ, ◌<◌, ◌^◌, List, length, refl, sym, ap, ◌∙◌}
 use Rattle.std.specs.Prelude.{Bool, true, false, ◌&&◌, Some, None, is_some}
+use Rattle.std.proofs.lemmas.Bool.{and_from}
 use Rattle.image_map.specs.declared.image.Image.{Image}
 use Rattle.image_map.specs.declared.region.Activation.{Activation}
 use Rattle.image_map.specs.declared.region.Block.{Block}
@@ -13,9 +14,8 @@ use Rattle.ia32_semantics.specs.Rows.{row}
 use Rattle.ia32_semantics.specs.Effects.{all_changed, effects_fit}
 use Rattle.ia32_semantics.specs.Outcome.{moved, can_move, is_possible, is_in_stack}
 use Rattle.ia32_semantics.specs.CallModel.{IsLaidOut}
-use Rattle.ia32_semantics.proofs.EffectLemmas.{and_both}
 use Rattle.ia32_semantics.proofs.StepLemmas.{steps_stay_laid_out}
-use Rattle.ia32_memory.specs.Mapped.{bytes_of, is_in_first, shapes}
+use Rattle.ia32_memory.specs.Mapped.{bytes_of, is_in_first}
 use Rattle.ia32_memory.proofs.ShapeLaws.{same_first}
 use Rattle.ia32_plan.specs.declared.state.Core.{Core}
 use Rattle.ia32_plan.specs.declared.entries.Plan.{Plan}
@@ -23,6 +23,7 @@ use Rattle.ia32_plan.specs.Plans.{all_effects, move_of, outcome_of}
 use Rattle.ia32_plan.specs.Views as views
 use Rattle.ia32_plan.proofs.StateLaws.{SameParts, outcome_alike, asks_alike}
 use Rattle.ia32_plan.specs.declared.words.Words.{Words}
+use Rattle.image_map.specs.Shapes.{shapes}
 use Rattle.ia32_machine.specs.declared.touched.StepOut.{StepOut}
 use Rattle.ia32_machine.specs.Touches.{IsToldOf}
 use Rattle.ia32_machine.specs.Opens.{KnowsOpen}
@@ -64,7 +65,7 @@ module _ (image : Image) (i : Instr) (words left : List ℕ) (used : Words) (pla
   after_ = with_calls (views.state_of new) after blocks allocs slot
 
   possible : is_possible image (outcome_of plan) s ≡ true
-  possible = and_both (effects_fit image (bytes_of old.memory) (all_effects plan.effects)) (can_move (move_of plan.calls) before) p.fits p.moves
+  possible = and_from (effects_fit image (bytes_of old.memory) (all_effects plan.effects)) (can_move (move_of plan.calls) before) p.fits p.moves
 
   planned : outcome (row i.op i) s words ≡ Some (outcome_of plan, left)
   planned = outcome_alike (row i.op i) s (views.state_of old) words (alike (views.state_of old) before blocks allocs slot) ∙ p.planned

@@ -5,6 +5,7 @@ use Rattle.std.specs.List.{list_any}
 use Rattle.std.proofs.lemmas.Bool.{false≢true}
 use Rattle.std.proofs.lemmas.Bool.Decides.{nat_tests}
 use Rattle.std.proofs.lemmas.Option.{none-some, same_Some}
+use Rattle.std.proofs.Math.Bool.{and-false}
 use Rattle.image_map.specs.declared.image.Image.{Image}
 use Rattle.image_map.specs.declared.region.Block.{Block}
 use Rattle.image_map.specs.Whole.{IsImage}
@@ -31,6 +32,7 @@ use Rattle.ia32_semantics.specs.Laws.{has_register, has_flag, is_repeated}
 use Rattle.ia32_semantics.proofs.EffectLemmas.{by_test, and_left, and_right, or_true}
 use Rattle.ia32_semantics.proofs.RowWithinLemmas.{steps_keep_to_tables}
 use Rattle.ia32_memory.proofs.StartLaws.{segment_low}
+use Rattle.item_list.proofs.TruthLaws.{eqb_swapped}
 use Rattle.ia32_machine.specs.Steps.{executes}
 use Rattle.ia32_machine.proofs.SureRowLemmas.{row_sure}
 use Rattle.ia32_machine.proofs.SureFlagLemmas.{row_flags_sure}
@@ -159,20 +161,13 @@ same_test true b f g = sym (f refl)
 same_test false true f g = absurd (false≢true (g refl))
 same_test false false f g = refl
 
-swap : (a b : ℕ) → (a == b) ≡ (b == a)
-swap a b = same_test (a == b) (b == a) (λ e. grind (arith, nat_tests)) (λ e. grind (arith, nat_tests))
-
 listed_reg : (r : Reg) (regs : List Reg) → is_listed_reg regs r ≡ has_register regs (reg_number r)
 listed_reg r [] = refl
-listed_reg r (q ∷ regs) = ap (λ b. b || is_listed_reg regs r) (swap (reg_number r) (reg_number q)) ∙ ap (λ b. reg_number q == reg_number r || b) (listed_reg r regs)
+listed_reg r (q ∷ regs) = ap (λ b. b || is_listed_reg regs r) (eqb_swapped (reg_number r) (reg_number q)) ∙ ap (λ b. reg_number q == reg_number r || b) (listed_reg r regs)
 
 listed_flag : (f : Flag) (flags : List Flag) → is_listed_flag flags f ≡ has_flag flags (flag_number f)
 listed_flag f [] = refl
-listed_flag f (q ∷ flags) = ap (λ b. b || is_listed_flag flags f) (swap (flag_number f) (flag_number q)) ∙ ap (λ b. flag_number q == flag_number f || b) (listed_flag f flags)
-
-no_byte : (b : Bool) → (b && false) ≡ false
-no_byte true = refl
-no_byte false = refl
+listed_flag f (q ∷ flags) = ap (λ b. b || is_listed_flag flags f) (eqb_swapped (flag_number f) (flag_number q)) ∙ ap (λ b. flag_number q == flag_number f || b) (listed_flag f flags)
 
 takes_nothing : (es : List Effect) (l : Location) → es ≡ [] → effects_take es l ≡ false
 takes_nothing es l e = ap (λ es. effects_take es l) e
@@ -208,11 +203,11 @@ module _ (image : Image) (i : Instr) (used : List ℕ) (s after : State) (st : S
   pub registers_are : (r : Reg) → reads (executes i used s after) (InRegister (reg_number r)) ≡ (if is_idle then is_same_reg r Ecx else is_listed_reg (registers_read i) r)
   registers_are r =
       by_test is_idle
-      (λ idle. idle_reads l (no_byte st.done.reads_all) (and_left (is_repeated i.op) _ idle) (and_right (is_repeated i.op) _ idle)
-      ∙ swap 1 (reg_number r) ∙ sym (ap (λ b. if b then is_same_reg r Ecx else is_listed_reg (registers_read i) r) idle))
+      (λ idle. idle_reads l (and-false st.done.reads_all) (and_left (is_repeated i.op) _ idle) (and_right (is_repeated i.op) _ idle)
+      ∙ eqb_swapped 1 (reg_number r) ∙ sym (ap (λ b. if b then is_same_reg r Ecx else is_listed_reg (registers_read i) r) idle))
       (λ busy. same_test (reads (executes i used s after) l) (has_register (registers_read i) (reg_number r))
       (λ e. (steps_keep_to_tables image i (executes i used s after) refl st).reads_registers (reg_number r) e)
-      (λ e. taken_alone l (no_byte st.done.reads_all) ∙ (row_sure s (reg_number r) i.op i (counts busy) e).each used [] st.done st.row)
+      (λ e. taken_alone l (and-false st.done.reads_all) ∙ (row_sure s (reg_number r) i.op i (counts busy) e).each used [] st.done st.row)
       ∙ sym (listed_reg r (registers_read i)) ∙ sym (ap (λ b. if b then is_same_reg r Ecx else is_listed_reg (registers_read i) r) busy))
     where
       l : Location
@@ -221,11 +216,11 @@ module _ (image : Image) (i : Instr) (used : List ℕ) (s after : State) (st : S
   pub flags_are : (f : Flag) → reads (executes i used s after) (InFlag (flag_number f)) ≡ (if is_idle then false else is_listed_flag (flags_read i) f)
   flags_are f =
       by_test is_idle
-      (λ idle. idle_reads l (no_byte st.done.reads_all) (and_left (is_repeated i.op) _ idle) (and_right (is_repeated i.op) _ idle)
+      (λ idle. idle_reads l (and-false st.done.reads_all) (and_left (is_repeated i.op) _ idle) (and_right (is_repeated i.op) _ idle)
       ∙ sym (ap (λ b. if b then false else is_listed_flag (flags_read i) f) idle))
       (λ busy. same_test (reads (executes i used s after) l) (has_flag (flags_read i) (flag_number f))
       (λ e. (steps_keep_to_tables image i (executes i used s after) refl st).reads_flags (flag_number f) e)
-      (λ e. taken_alone l (no_byte st.done.reads_all) ∙ (row_flags_sure s (flag_number f) i.op i (counts busy) e).each used [] st.done st.row)
+      (λ e. taken_alone l (and-false st.done.reads_all) ∙ (row_flags_sure s (flag_number f) i.op i (counts busy) e).each used [] st.done st.row)
       ∙ sym (listed_flag f (flags_read i)) ∙ sym (ap (λ b. if b then false else is_listed_flag (flags_read i) f) busy))
     where
       l : Location

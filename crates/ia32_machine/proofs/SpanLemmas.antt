@@ -4,13 +4,13 @@ use Rattle.std.specs.Prelude.{Bool, true, false, ◌||◌, ◌==◌, nat_lt}
 use Rattle.std.proofs.lemmas.Bool.{false≢true}
 use Rattle.std.proofs.lemmas.Bool.Decides.{nat_tests}
 use Rattle.std.proofs.Math.Nat.{add-mul-mod_self_right}
-use Rattle.image_map.specs.Ranges.{within}
 use Rattle.ia32_semantics.specs.State.{AtByte}
 use Rattle.ia32_semantics.specs.Effects.{effects_write, effects_take, is_among, is_of_bytes, all_among}
 use Rattle.ia32_semantics.specs.Operands.{number_bytes}
 use Rattle.ia32_semantics.specs.Strings.{stepped, copied, filled}
 use Rattle.ia32_semantics.proofs.EffectLemmas.{by_test, and_left, and_right}
 use Rattle.ia32_memory.specs.Changes.{all_in_elements}
+use Rattle.item_list.specs.Ranges.{within}
 
 -- n elements of z bytes, from the one at an address on
 abbrev pub in_elements : Bool → ℕ → ℕ → ℕ → ℕ → Bool

@@ -2,6 +2,7 @@
 use Rattle.std.proofs.Common.{◌≡◌, ℕ, ◌+◌, ◌<◌, ◌≤◌, ◌^◌, List, [], ◌∷◌, refl, sym, ap, subst, ◌∙◌, arith}
 use Rattle.std.specs.Prelude.{Bool, true, false, not, ◌&&◌, ◌||◌, ◌==◌, Some, is_some, option_map}
 use Rattle.std.proofs.lemmas.Bool.Decides.{nat_tests}
+use Rattle.std.proofs.lemmas.Bool.{or_right}
 use Rattle.image_map.specs.declared.image.Image.{Image}
 use Rattle.image_map.specs.declared.region.Settings.{Settings}
 use Rattle.image_map.specs.Queries.{is_in_segment, is_writable}
@@ -10,13 +11,14 @@ use Rattle.ia32_semantics.specs.State.{State, Bytes, word_at, little_endian}
 use Rattle.ia32_semantics.specs.Effects.{is_open, is_of_bytes}
 use Rattle.ia32_semantics.specs.Outcome.{is_in_stack, IsFarFrom}
 use Rattle.ia32_semantics.specs.CallModel.{IsEntrySlot, IsStart, entry_activation}
-use Rattle.ia32_semantics.proofs.ReadingLemmas.{or_right}
-use Rattle.ia32_memory.specs.Mapped.{Mapped, bytes_of, is_open_at, is_in_first, shapes}
+use Rattle.ia32_memory.specs.Mapped.{Mapped, bytes_of, is_open_at, is_in_first}
 use Rattle.ia32_memory.specs.Changes.{with_bytes}
 use Rattle.ia32_memory.specs.Start.{start_bytes}
 use Rattle.ia32_memory.proofs.ShapeLaws.{same_open, same_first}
 use Rattle.ia32_memory.proofs.WrittenLaws.{with_bytes_maps, with_bytes_other, with_bytes_small, read_back}
-use Rattle.ia32_memory.proofs.StartLaws.{start_mapped, start_known, start_apart, known_there, segment_low}
+use Rattle.ia32_memory.proofs.StartLaws.{start_mapped, start_known, start_apart, segment_low}
+use Rattle.image_map.proofs.SegmentLaws.{known_there}
+use Rattle.image_map.specs.Shapes.{shapes}
 use Rattle.ia32_machine.specs.Machines.{IsStartMemory}
 
 pub entry_slot : IsEntrySlot 0xBFF0000C

@@ -17,10 +17,11 @@ use Rattle.ia32_semantics.specs.Outcome.{Outcome, Given, Move, moved, made, can_
 use Rattle.ia32_semantics.specs.Rows.{row}
 use Rattle.ia32_semantics.specs.Step.{Step}
 use Rattle.ia32_semantics.proofs.EffectLemmas.{and_left, effects_map}
-use Rattle.ia32_memory.specs.Mapped.{Mapped, bytes_of, shapes}
+use Rattle.ia32_memory.specs.Mapped.{Mapped, bytes_of}
 use Rattle.ia32_memory.specs.Changes.{cleared}
 use Rattle.ia32_memory.proofs.ShapeLaws.{same_open}
 use Rattle.ia32_memory.proofs.WrittenLaws.{cleared_maps}
+use Rattle.image_map.specs.Shapes.{shapes}
 use Rattle.ia32_machine.specs.Opens.{KnowsOpen}
 use Rattle.ia32_machine.specs.Steps.{executes, Faults, performed, gone_on}
 use Rattle.ia32_machine.proofs.WordLemmas.{more_words, used_words, asks_more}

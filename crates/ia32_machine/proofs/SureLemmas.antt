@@ -1,7 +1,7 @@
 -- What a reading asks for in any case, and what is taken over of what it gives, along its parts.
 use Rattle.std.proofs.Common.{◌≡◌, ℕ, ◌%◌, List, [], ◌∷◌, ◌++◌, refl, sym, ap, ◌∙◌, subst, eqb-true}
 use Rattle.std.specs.Prelude.{Bool, true, false, ◌||◌, ◌==◌, ◌/◌, if◌then◌else◌, Option, Some, None, option_to_list}
-use Rattle.std.proofs.lemmas.Bool.{false≢true}
+use Rattle.std.proofs.lemmas.Bool.{false≢true, or_right, or_left}
 use Rattle.std.proofs.lemmas.List.Folds.{list_any-append}
 use Rattle.std.proofs.lemmas.Option.{none-some, same_Some}
 use Rattle.ia32_types.specs.declared.Reg.{Reg}
@@ -19,7 +19,7 @@ use Rattle.ia32_semantics.specs.Operands.{whole_register, flag_value, register_o
 use Rattle.ia32_semantics.specs.Outcome.{Outcome}
 use Rattle.ia32_semantics.specs.Laws.{has_register}
 use Rattle.ia32_semantics.proofs.EffectLemmas.{or_true}
-use Rattle.ia32_semantics.proofs.ReadingLemmas.{then_outcome, then_asks, outcome_bind, asks_bind, or_left, or_right, same_number}
+use Rattle.ia32_semantics.proofs.ReadingLemmas.{then_outcome, then_asks, outcome_bind, asks_bind, same_number}
 
 -- in this state the location is asked for, or taken over by what is given
 pub record Sure {A : Type 0} (s : State) (l : Location) (T : A → Bool) (t : Reading A) : Type 0 where

@@ -13,22 +13,14 @@ use Rattle.ia32_types.proofs.NumberLemmas.{each_reg}
 use Rattle.ia32_semantics.specs.declared.flags.FlagsOut.{FlagsOut}
 use Rattle.ia32_semantics.specs.declared.flags.FlagOut.{FlagOut}
 use Rattle.ia32_semantics.specs.declared.flags.FlagOut.TheVariants as out
-use Rattle.ia32_semantics.specs.State.{Location, InRegister, InFlag}
-use Rattle.ia32_semantics.specs.Effects.{Effect, Whole, sets, effect_writes, effects_write}
+use Rattle.ia32_semantics.specs.State.{InRegister, InFlag}
+use Rattle.ia32_semantics.specs.Effects.{Effect, Whole, sets, effects_write}
 use Rattle.ia32_semantics.specs.Operands.{flag_effect, flag_effects}
 use Rattle.ia32_semantics.specs.Rows.{halves, quotient_effects}
 use Rattle.ia32_semantics.specs.Strings.{copied, filled}
 use Rattle.ia32_semantics.proofs.EffectLemmas.{by_test}
+use Rattle.ia32_semantics.proofs.ChangeLemmas.{write_append}
 use Rattle.ia32_machine.specs.Touches.{has_halves, is_set_flag}
-
--- what two lists of effects write
-pub written_by_both : (es fs : List Effect) (l : Location) → effects_write (es ++ fs) l ≡ (effects_write es l || effects_write fs l)
-written_by_both [] fs l = refl
-written_by_both (e ∷ es) fs l = ap (λ b. effect_writes e l || b) (written_by_both es fs l) ∙ assoc (effect_writes e l) (effects_write es l) (effects_write fs l)
-  where
-    assoc : (a b c : Bool) → (a || (b || c)) ≡ ((a || b) || c)
-    assoc true b c = refl
-    assoc false b c = refl
 
 pub halves_written : (width : Width) (low high : ℕ) (r : Reg) → has_halves width r ≡ effects_write (halves width low high) (InRegister (reg_number r))
 halves_written B8 low high r = each_reg (λ r. has_halves B8 r ≡ effects_write (halves B8 low high) (InRegister (reg_number r))) refl refl refl refl refl refl refl refl r
@@ -94,4 +86,4 @@ flags_written o f =
 
     both : (a b : Bool) (es fs : List Effect) → a ≡ effects_write es (InFlag (flag_number f)) → b ≡ effects_write fs (InFlag (flag_number f))
         → (a || b) ≡ effects_write (es ++ fs) (InFlag (flag_number f))
-    both a b es fs p q = ap (λ t. t || b) p ∙ ap (λ t. effects_write es (InFlag (flag_number f)) || t) q ∙ sym (written_by_both es fs (InFlag (flag_number f)))
+    both a b es fs p q = ap (λ t. t || b) p ∙ ap (λ t. effects_write es (InFlag (flag_number f)) || t) q ∙ sym (write_append es fs (InFlag (flag_number f)))

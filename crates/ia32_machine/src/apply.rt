@@ -2,12 +2,13 @@
 
 ghost use Rattle.std.specs.Prelude.{◌≡◌, ◌≤◌, ◌-◌, ◌^◌, true, if◌then◌else◌, [], ◌∷◌, ◌++◌};
 ghost use Rattle.image_map.specs.declared.image.Image.{Image};
+ghost use Rattle.image_map.specs.Shapes.{shapes};
 ghost use Rattle.ia32_types.specs.Numbers.{reg_number, flag_number};
 ghost use Rattle.ia32_semantics.specs.Effects.{Whole, Low, High, sets, turns, changed, all_changed, effects_fit, with_part as with_part_spec};
 ghost use Rattle.ia32_semantics.specs.Operands.{part_of, size, flag_effect, flag_effects};
 ghost use Rattle.ia32_semantics.specs.Rows.{halves, quotient_effects};
 ghost use Rattle.ia32_semantics.specs.Strings.{stepped as stepped_spec, copied, filled};
-ghost use Rattle.ia32_memory.specs.Mapped.{bytes_of, shapes};
+ghost use Rattle.ia32_memory.specs.Mapped.{bytes_of};
 ghost use Rattle.ia32_plan.specs.Plans.{entry_effects, all_effects};
 ghost use Rattle.ia32_plan.specs.Views.{state_of};
 

@@ -3,8 +3,9 @@
 ghost use Rattle.std.specs.Prelude.{◌≡◌, Err, IfOk, OnOk, OnErr, length, reverse};
 ghost use Rattle.image_map.specs.declared.image.Image.{Image};
 ghost use Rattle.image_map.specs.Whole.{IsImage};
+ghost use Rattle.image_map.specs.Shapes.{shapes};
 ghost use Rattle.ia32_semantics.specs.Outcome.{can_move as can_move_spec, moved};
-ghost use Rattle.ia32_memory.specs.Mapped.{is_in_first, shapes};
+ghost use Rattle.ia32_memory.specs.Mapped.{is_in_first};
 ghost use Rattle.ia32_plan.specs.Plans.{move_of};
 ghost use Rattle.ia32_plan.specs.Views as views;
 ghost use Rattle.ia32_machine.specs.Machines.{state_of, RunsImage};

@@ -6,10 +6,11 @@ use Rattle.std.proofs.lemmas.Option.{slice_get-get_or}
 use mathlib.Core.Path.{fun_ext}
 use Rattle.image_map.specs.declared.image.Segment.{Segment}
 use Rattle.image_map.specs.Memory.{holds, byte_in}
-use Rattle.ia32_memory.specs.Mapped.{bytes_of, AreWithin, IsClear, is_in_first, shapes, bytes_below}
+use Rattle.ia32_memory.specs.Mapped.{bytes_of, AreWithin, IsClear, is_in_first, bytes_below}
 use Rattle.ia32_memory.specs.Changes.{zeroed, cleared}
 use Rattle.ia32_semantics.proofs.EffectLemmas.{by_test}
-use Rattle.ia32_memory.proofs.ReadLemmas.{head_in}
+use Rattle.image_map.proofs.SegmentLaws.{offset_within, head_in}
+use Rattle.image_map.specs.Shapes.{shapes}
 
 -- -- Lists
 
@@ -70,9 +71,6 @@ segment_zeroed s from n = record { start = s.start; bytes = zeroed from n s.byte
 abbrev pub first_cleared : Segment → ℕ → ℕ → Segment
 first_cleared s clear below = segment_zeroed s clear (bytes_below s below - clear)
 
-short : (s : Segment) (a : ℕ) → holds a s ≡ true → a - s.start < length s.bytes
-short s a h = grind (arith, nat_tests)
-
 -- an address of the segment at or above the limit
 far : (s : Segment) (a below : ℕ) → holds a s ≡ true → nat_lt a below ≡ false → bytes_below s below ≤ a - s.start
 far s a below h k = grind (arith, nat_tests)
@@ -95,11 +93,11 @@ kept_as xs clear limit k past =
 byte_cleared : (s : Segment) (clear below x : ℕ) → ((k : ℕ) → k < clear → get_or s.bytes k 0 ≡ 0) → holds x s ≡ true
     → slice_get (zeroed clear (bytes_below s below - clear) s.bytes) (x - s.start) ≡ cond (nat_lt x below) (Some 0) (slice_get s.bytes (x - s.start))
 byte_cleared s clear below x clean held =
-    slice_get-get_or (zeroed clear (bytes_below s below - clear) s.bytes) (x - s.start) 0 (subst (λ n. x - s.start < n) (sym (zeroed_length clear (bytes_below s below - clear) s.bytes)) (short s x held))
+    slice_get-get_or (zeroed clear (bytes_below s below - clear) s.bytes) (x - s.start) 0 (subst (λ n. x - s.start < n) (sym (zeroed_length clear (bytes_below s below - clear) s.bytes)) (offset_within s x held))
     ∙ by_test (nat_lt x below)
     (λ e. let inside : x - s.start < max clear (bytes_below s below) = let h = near s x below held e in omega arith in
     ap (λ v. Some v) (clear_as s.bytes clear (bytes_below s below) clean (x - s.start) inside) ∙ sym (ap (λ b. cond b (Some 0) (slice_get s.bytes (x - s.start))) e))
-    (λ e. ap (λ v. Some v) (kept_as s.bytes clear (bytes_below s below) (x - s.start) (far s x below held e)) ∙ sym (slice_get-get_or s.bytes (x - s.start) 0 (short s x held))
+    (λ e. ap (λ v. Some v) (kept_as s.bytes clear (bytes_below s below) (x - s.start) (far s x below held e)) ∙ sym (slice_get-get_or s.bytes (x - s.start) 0 (offset_within s x held))
     ∙ sym (ap (λ b. cond b (Some 0) (slice_get s.bytes (x - s.start))) e))
 
 cleared_go : (h : Bool) (t : Bool) (u v w : Option ℕ) → (h ≡ true → u ≡ cond t (Some 0) v) → (h ≡ true → is_some v ≡ true) → cond h u w ≡ cond (h && t && is_some (cond h v w)) (Some 0) (cond h v w)
@@ -113,7 +111,7 @@ first_bytes s ss clear below clean = fun_ext (λ x.
     head_in (first_cleared s clear below) ss x
     ∙ ap (λ n. cond (nat_le s.start x && nat_lt (x - s.start) n) (slice_get (zeroed clear (bytes_below s below - clear) s.bytes) (x - s.start)) (byte_in ss x)) (zeroed_length clear (bytes_below s below - clear) s.bytes)
     ∙ cleared_go (holds x s) (nat_lt x below) (slice_get (zeroed clear (bytes_below s below - clear) s.bytes) (x - s.start)) (slice_get s.bytes (x - s.start)) (byte_in ss x)
-    (λ held. byte_cleared s clear below x clean held) (λ held. ap is_some (slice_get-get_or s.bytes (x - s.start) 0 (short s x held)))
+    (λ held. byte_cleared s clear below x clean held) (λ held. ap is_some (slice_get-get_or s.bytes (x - s.start) 0 (offset_within s x held)))
     ∙ ap (λ v. cond (holds x s && nat_lt x below && is_some v) (Some 0) v) (sym (head_in s ss x)))
 
 -- -- Lists of segments

@@ -1,5 +1,5 @@
 -- Segments of zeros, and the memory in which a run starts.
-use Rattle.std.proofs.Common.{◌≡◌, ℕ, ◌+◌, ◌-◌, ◌<◌, ◌≤◌, ◌^◌, List, [], ◌∷◌, ◌++◌, length, get_or, refl, ap, sym, subst, ◌∙◌, arith}
+use Rattle.std.proofs.Common.{◌≡◌, ℕ, ◌+◌, ◌-◌, ◌<◌, ◌≤◌, ◌^◌, List, [], ◌∷◌, ◌++◌, get_or, refl, ap, sym, subst, ◌∙◌, arith}
 use Rattle.std.specs.Prelude.{Bool, true, false, cond, ◌&&◌, nat_le, nat_lt, Option, Some, None, slice_get, is_some, replicate}
 use Rattle.std.proofs.lemmas.Bool.Decides.{nat_tests}
 use Rattle.std.proofs.lemmas.List.{length-replicate, get_or-replicate, get_or_past}
@@ -7,12 +7,12 @@ use Rattle.std.proofs.lemmas.Option.{slice_get-get_or}
 use mathlib.Core.Path.{fun_ext}
 use Rattle.image_map.specs.declared.image.Segment.{Segment}
 use Rattle.image_map.specs.Memory.{holds, has_flag, byte_in}
-use Rattle.image_map.specs.Ranges.{within}
 use Rattle.image_map.specs.Whole.{end_of}
 use Rattle.ia32_semantics.proofs.EffectLemmas.{by_test}
+use Rattle.image_map.proofs.SegmentLaws.{offset_within, head_in}
+use Rattle.item_list.specs.Ranges.{within}
 use Rattle.ia32_memory.specs.Mapped.{bytes_of, is_open_at, is_in_first, AreWithin, IsClear, zeros_from}
 use Rattle.ia32_memory.specs.Changes.{with_zeros}
-use Rattle.ia32_memory.proofs.ReadLemmas.{head_in}
 use Rattle.ia32_memory.proofs.ShapeLaws.{open_head}
 
 -- -- One segment of zeros
@@ -49,18 +49,15 @@ pub zeros_open : (start size : ℕ) → has_flag 2 (zeros_from start size) ≡ t
 unfolding zeros_from
 zeros_open start size = refl
 
-pub short : (s : Segment) (a : ℕ) → holds a s ≡ true → a - s.start < length s.bytes
-short s a h = grind (arith, nat_tests)
-
 pub zeros_byte : (start size x : ℕ) → holds x (zeros_from start size) ≡ true → slice_get (zeros_from start size).bytes (x - (zeros_from start size).start) ≡ Some 0
 zeros_byte start size x h =
-    slice_get-get_or (zeros_from start size).bytes (x - (zeros_from start size).start) 0 (short (zeros_from start size) x h)
+    slice_get-get_or (zeros_from start size).bytes (x - (zeros_from start size).start) 0 (offset_within (zeros_from start size) x h)
     ∙ ap (λ v. Some v) (zeros_clear start size (x - (zeros_from start size).start))
 
 -- -- Zeros put behind segments
 
 pub is_some_held : (s : Segment) (x : ℕ) → holds x s ≡ true → is_some (slice_get s.bytes (x - s.start)) ≡ true
-is_some_held s x h = ap is_some (slice_get-get_or s.bytes (x - s.start) 0 (short s x h))
+is_some_held s x h = ap is_some (slice_get-get_or s.bytes (x - s.start) 0 (offset_within s x h))
 
 added_go : {A : Type 0} (h : Bool) (v w : Option ℕ) (p q r : A) → (h ≡ true → is_some v ≡ true) → cond h p (cond (is_some w) q r) ≡ cond (is_some (cond h v w)) (cond h p q) r
 added_go true v w p q r there = sym (ap (λ b. cond b p r) (there refl))

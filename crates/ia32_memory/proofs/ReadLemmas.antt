@@ -1,8 +1,6 @@
 -- What the bytes of segments are, the first segment that has an address before the others; and numbers of some bytes.
 use Rattle.std.proofs.Common.{◌≡◌, ℕ, suc, ◌+◌, ◌-◌, ◌<◌, ◌≤◌, ◌^◌, List, [], ◌∷◌, refl, sym, ap, ◌∙◌, arith}
 use Rattle.std.specs.Prelude.{Bool, true, false, cond, ◌&&◌, nat_lt, Option, Some, None, slice_get, option_map}
-use Rattle.std.specs.List.{find}
-use Rattle.std.specs.Option.{option_and_then}
 use Rattle.std.proofs.lemmas.Bool.Decides.{nat_tests}
 use Rattle.image_map.specs.declared.image.Segment.{Segment}
 use Rattle.image_map.specs.Memory.{holds, has_flag, byte_in}
@@ -10,17 +8,11 @@ use Rattle.image_map.specs.Whole.{end_of}
 use Rattle.ia32_semantics.specs.State.{Bytes, bytes_at, little_endian, joined}
 use Rattle.ia32_semantics.specs.Effects.{all_among}
 use Rattle.ia32_semantics.proofs.EffectLemmas.{by_test}
+use Rattle.image_map.proofs.SegmentLaws.{head_in}
 use Rattle.ia32_memory.specs.Mapped.{bytes_of, is_open_at, number_at, AreWithin, two, four}
 use Rattle.ia32_memory.proofs.ShapeLaws.{open_head}
 
 -- -- Segments
-
-head_go : (h : Bool) (s : Segment) (rest : Option Segment) (x : ℕ) → option_and_then (λ (t : Segment). slice_get t.bytes (x - t.start)) (cond h (Some s) rest) ≡ cond h (slice_get s.bytes (x - s.start)) (option_and_then (λ (t : Segment). slice_get t.bytes (x - t.start)) rest)
-head_go true s rest x = refl
-head_go false s rest x = refl
-
-pub head_in : (s : Segment) (ss : List Segment) (x : ℕ) → byte_in (s ∷ ss) x ≡ cond (holds x s) (slice_get s.bytes (x - s.start)) (byte_in ss x)
-head_in s ss x = head_go (holds x s) s (find (holds x) ss) x
 
 past_one : (s : Segment) (a : ℕ) → end_of s ≤ 2 ^ 32 → 2 ^ 32 ≤ a → holds a s ≡ false
 past_one s a within past = grind (arith, nat_tests)

@@ -5,7 +5,8 @@ use Rattle.std.specs.List.{find}
 use Rattle.std.specs.Option.{option_map_or}
 use Rattle.image_map.specs.declared.image.Segment.{Segment}
 use Rattle.image_map.specs.Memory.{holds, has_flag}
-use Rattle.ia32_memory.specs.Mapped.{is_open_at, is_in_first, Shape, shapes}
+use Rattle.image_map.specs.Shapes.{Shape, shapes}
+use Rattle.ia32_memory.specs.Mapped.{is_open_at, is_in_first}
 
 abbrev in_shape : ℕ → Shape → Bool
 in_shape a s = nat_le s.start a && nat_lt (a - s.start) s.len

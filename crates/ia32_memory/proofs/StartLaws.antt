@@ -1,20 +1,18 @@
 -- The memory in which a run of an image starts has the image's known bytes, apart from the stack.
 use Rattle.std.proofs.Common.{◌≡◌, ℕ, ◌<◌, ◌≤◌, refl, sym, ap, ◌∙◌, arith, inl}
-use Rattle.std.specs.Prelude.{Bool, true, false, cond, ◌||◌, nat_lt, Option, Some, None, is_some}
+use Rattle.std.specs.Prelude.{Bool, true, false, cond, ◌||◌, nat_lt, Some, None, is_some}
 use Rattle.std.proofs.lemmas.Bool.{false≢true}
 use Rattle.std.proofs.lemmas.Bool.Decides.{nat_tests}
-use Rattle.std.proofs.lemmas.Option.{none-some}
 use Rattle.image_map.specs.declared.image.Image.{Image}
-use Rattle.image_map.specs.Memory.{byte_in}
-use Rattle.image_map.specs.Ranges.{is_any}
 use Rattle.image_map.specs.Queries.{byte_at, is_in_segment}
 use Rattle.image_map.specs.Whole.{IsImage}
 use Rattle.ia32_semantics.specs.Effects.{byte_or_zero}
 use Rattle.ia32_semantics.specs.Outcome.{is_in_stack, IsFarFrom}
 use Rattle.ia32_semantics.specs.CallModel.{IsEntrySlot}
 use Rattle.ia32_semantics.proofs.EffectLemmas.{by_test}
+use Rattle.image_map.proofs.SegmentLaws.{known_there}
 use Rattle.ia32_memory.specs.Start.{start_bytes}
-use Rattle.ia32_memory.proofs.StartLemmas.{mapped_in, segments_low, stack_in}
+use Rattle.ia32_memory.proofs.StartLemmas.{segments_low, stack_in}
 
 mapped_go : (stack in_segment : Bool) (known : ℕ) → is_some (cond stack (Some 0) (cond in_segment (Some known) None)) ≡ (in_segment || stack)
 mapped_go true true known = refl
@@ -39,14 +37,6 @@ start_apart image slot a whole entry there =
     let low = segment_low image a whole there in
     let above = entry.above in
     inl (omega arith)
-
-known_go : (any : Bool) (v : Option ℕ) (byte : ℕ) → cond any None v ≡ Some byte → is_some v ≡ true
-known_go true v byte e = absurd (none-some byte e)
-known_go false v byte e = ap is_some e
-
--- where a byte is known, an address is in a segment
-pub known_there : (image : Image) (a byte : ℕ) → byte_at image a ≡ Some byte → is_in_segment image a ≡ true
-known_there image a byte e = sym (mapped_in image.segments a) ∙ known_go (is_any image.any_bytes a) (byte_in image.segments a) byte e
 
 stack_no : (slot a : ℕ) (stack : Bool) → (stack ≡ true → 0x7FFFFFFF ≤ a) → a < 0x7FFFFFFF → stack ≡ false
 stack_no slot a true high low = absurd (let up = high refl in omega arith)

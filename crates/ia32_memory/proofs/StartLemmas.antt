@@ -6,11 +6,12 @@ use Rattle.std.proofs.lemmas.Bool.Decides.{nat_tests}
 use Rattle.std.proofs.lemmas.Option.{none-some, same_Some, slice_get-get_or}
 use Rattle.std.proofs.lemmas.List.{take_more}
 use mathlib.Core.Path.{fun_ext}
+use Rattle.std.proofs.Math.Bool.{or_assoc, or-false}
 use Rattle.image_map.specs.declared.image.Segment.{Segment}
 use Rattle.image_map.specs.declared.image.Image.{Image}
 use Rattle.image_map.specs.declared.spans.Span.{Span}
 use Rattle.image_map.specs.Memory.{holds, has_flag, byte_in, segment_at}
-use Rattle.image_map.specs.Ranges.{within, is_any}
+use Rattle.image_map.specs.Ranges.{is_any}
 use Rattle.image_map.specs.Queries.{byte_at, is_in_segment, is_writable}
 use Rattle.image_map.specs.Whole.{end_of, ArePlaced, IsImage}
 use Rattle.ia32_semantics.specs.State.{Bytes}
@@ -18,12 +19,14 @@ use Rattle.ia32_semantics.specs.Effects.{byte_or_zero, is_open}
 use Rattle.ia32_semantics.specs.Outcome.{is_in_stack}
 use Rattle.ia32_semantics.specs.CallModel.{IsEntrySlot}
 use Rattle.ia32_semantics.proofs.EffectLemmas.{by_test}
+use Rattle.item_list.proofs.RangeLaws.{none_within}
+use Rattle.image_map.proofs.SegmentLaws.{offset_within, head_in}
+use Rattle.item_list.specs.Ranges.{within}
 use Rattle.ia32_memory.specs.Mapped.{bytes_of, is_open_at, AreWithin, HasBytes, HaveBytes, zeros_from}
 use Rattle.ia32_memory.specs.Changes.{with_byte, cleared}
 use Rattle.ia32_memory.specs.Start.{start_bytes}
-use Rattle.ia32_memory.proofs.ReadLemmas.{head_in}
 use Rattle.ia32_memory.proofs.ShapeLaws.{open_head}
-use Rattle.ia32_memory.proofs.MakeLemmas.{zeros_hold, zeros_byte, zeros_open, is_some_held, short}
+use Rattle.ia32_memory.proofs.MakeLemmas.{zeros_hold, zeros_byte, zeros_open, is_some_held}
 
 -- -- Segments of an image
 
@@ -151,23 +154,12 @@ range_all m start end last at is below above =
 none_go : (w : Bool) (v : Option ℕ) → w ≡ false → v ≡ cond (w && is_some v) (Some 0) v
 none_go w v none = rw none refl
 
-none_within : (start x : ℕ) → within start start x ≡ false
-none_within start x = grind (arith, nat_tests)
-
 pub range_start : (m : Bytes) (start : ℕ) → m ≡ cleared (λ x. within start start x) m
 range_start m start = fun_ext (λ x. none_go (within start start x) (m x) (none_within start x))
 
-or_assoc : (a b c : Bool) → (a || (b || c)) ≡ (a || b || c)
-or_assoc true b c = refl
-or_assoc false b c = refl
-
-or_none : (a : Bool) → (a || false) ≡ a
-or_none true = refl
-or_none false = refl
-
 any_push : (before : List Span) (s : Span) (x : ℕ) → is_any (before ++ s ∷ []) x ≡ (is_any before x || within s.start s.end x)
-any_push [] s x = or_none (within s.start s.end x)
-any_push (t ∷ ts) s x = ap (λ r. within t.start t.end x || r) (any_push ts s x) ∙ or_assoc (within t.start t.end x) (is_any ts x) (within s.start s.end x)
+any_push [] s x = or-false (within s.start s.end x)
+any_push (t ∷ ts) s x = ap (λ r. within t.start t.end x || r) (any_push ts s x) ∙ sym (or_assoc (within t.start t.end x) (is_any ts x) (within s.start s.end x))
 
 spans_go : (here before more : Bool) (v : Option ℕ) → more ≡ (before || here)
     → cond (here && is_some (cond (before && is_some v) (Some 0) v)) (Some 0) (cond (before && is_some v) (Some 0) v) ≡ cond (more && is_some v) (Some 0) v
@@ -187,7 +179,7 @@ byte_small : (ss : List Segment) → HaveBytes ss → (a byte : ℕ) → byte_in
 byte_small [] small a byte e = absurd (none-some byte e)
 byte_small (s ∷ ss) small a byte e =
     by_test (holds a s)
-    (λ h. let there = slice_get-get_or s.bytes (a - s.start) 0 (short s a h) in
+    (λ h. let there = slice_get-get_or s.bytes (a - s.start) 0 (offset_within s a h) in
     let here : slice_get s.bytes (a - s.start) ≡ Some byte = sym (head_in s ss a ∙ ap (λ t. cond t (slice_get s.bytes (a - s.start)) (byte_in ss a)) h) ∙ e in
     subst (λ v. v < 256) (same_Some (get_or s.bytes (a - s.start) 0) byte (sym there ∙ here)) (small.0 (a - s.start)))
     (λ h. byte_small ss small.1 a byte (sym (head_in s ss a ∙ ap (λ t. cond t (slice_get s.bytes (a - s.start)) (byte_in ss a)) h) ∙ e))

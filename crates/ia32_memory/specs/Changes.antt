@@ -1,10 +1,10 @@
 -- What is done to bytes, where they are mapped; nothing is done where they aren't. The project's own.
 use Rattle.std.specs.Prelude.{ℕ, zero, suc, ◌+◌, ◌%◌, ◌==◌, ◌&&◌, Bool, true, if◌then◌else◌, List, [], ◌∷◌, Some, None, is_some}
-use Rattle.image_map.specs.Ranges.{within}
 use Rattle.ia32_semantics.specs.State.{Bytes}
 use Rattle.ia32_semantics.specs.Effects.{bytes_from, all_among}
 use Rattle.ia32_semantics.specs.Operands.{number_bytes}
 use Rattle.ia32_semantics.specs.Strings.{stepped}
+use Rattle.item_list.specs.Ranges.{within}
 
 -- the byte at an address replaced
 abbrev pub with_byte : Bytes → ℕ → ℕ → Bytes

@@ -1,6 +1,6 @@
 -- The memory of a machine as the segments that have its bytes: the stack, then those of the image, then the blocks. The
 -- project's own.
-use Rattle.std.specs.Prelude.{◌≡◌, ℕ, ◌+◌, ◌<◌, ◌≤◌, ◌^◌, ◌-◌, ◌*◌, min, Bool, false, List, [], ◌∷◌, Option, Some, None, length, map, get_or, option_map, replicate}
+use Rattle.std.specs.Prelude.{◌≡◌, ℕ, ◌+◌, ◌<◌, ◌≤◌, ◌^◌, ◌-◌, ◌*◌, min, Bool, false, List, [], ◌∷◌, Option, Some, None, length, get_or, option_map, replicate}
 use Rattle.image_map.specs.declared.image.Segment.{Segment}
 use Rattle.image_map.specs.Memory.{holds, byte_in, is_in}
 use Rattle.image_map.specs.Whole.{end_of}
@@ -21,18 +21,6 @@ is_open_at segments a = is_in segments 2 a
 abbrev pub is_in_first : Mapped → ℕ → Bool
 is_in_first [] a = false
 is_in_first (stack ∷ others) a = holds a stack
-
--- where a segment lies, and what may be done with it
-pub record Shape : Type 0 where
-  pub start : ℕ
-  pub len : ℕ
-  pub flags : ℕ
-
-abbrev pub shape : Segment → Shape
-shape s = record { start = s.start; len = length s.bytes; flags = s.flags }
-
-abbrev pub shapes : Mapped → List Shape
-shapes segments = map shape segments
 
 -- the number that the n bytes from an address on hold, the lowest first, where all are mapped
 abbrev pub number_at : Bytes → ℕ → ℕ → Option ℕ

@@ -1,11 +1,13 @@
 ghost use Rattle.std.specs.Prelude.{◌≡◌, ℕ, ◌+◌, ◌-◌, ◌<◌, ◌≤◌, ◌^◌, [], ◌∷◌, ◌++◌, ◌&&◌, if◌then◌else◌, is_some, length, nat_lt, position, OnOk, OnErr, IfOk};
 ghost use Rattle.image_map.specs.Memory.{holds, byte_in};
-ghost use Rattle.image_map.specs.Ranges.{within, is_any};
+ghost use Rattle.item_list.specs.Ranges.{within};
+ghost use Rattle.image_map.specs.Ranges.{is_any};
 ghost use Rattle.image_map.specs.Whole.{IsImage};
+ghost use Rattle.image_map.specs.Shapes.{shapes};
 ghost use Rattle.ia32_semantics.specs.Effects.{is_open};
 ghost use Rattle.ia32_semantics.specs.Outcome.{is_in_stack};
 ghost use Rattle.ia32_semantics.specs.CallModel.{IsEntrySlot};
-ghost use Rattle.ia32_memory.specs.Mapped.{bytes_of, is_open_at, is_in_first, shapes, AreWithin, IsClear, AreBytes, HaveBytes, bytes_below, zeros_from};
+ghost use Rattle.ia32_memory.specs.Mapped.{bytes_of, is_open_at, is_in_first, AreWithin, IsClear, AreBytes, HaveBytes, bytes_below, zeros_from};
 ghost use Rattle.ia32_memory.specs.Changes.{with_byte, cleared, with_zeros, zeroed};
 ghost use Rattle.ia32_memory.specs.Start.{start_bytes};
 

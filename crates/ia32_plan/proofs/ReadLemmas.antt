@@ -3,6 +3,7 @@ use Rattle.std.proofs.Common.{◌≡◌, ℕ, zero, suc, ◌+◌, ◌==◌, List
 use Rattle.std.specs.Prelude.{Bool, true, false, ◌||◌, Option, Some, None, IfSome}
 use Rattle.std.specs.Option.{option_map}
 use Rattle.std.proofs.lemmas.Option.{none-some, same_Some}
+use Rattle.std.proofs.Math.Bool.{or-false}
 use Rattle.ia32_semantics.specs.State.{State, AtByte}
 use Rattle.ia32_semantics.specs.Reading.{Reading, gives, faults, register, flag, byte, choice, with_byte, outcome, asks}
 use Rattle.ia32_semantics.specs.Effects.{is_among}
@@ -78,10 +79,6 @@ in_addresses : (n at a : ℕ) (others : List ℕ) → is_in (addresses_on n at o
 in_addresses zero at a others = refl
 in_addresses (suc n) at a others = in_addresses n (at + 1) a (at ∷ others) ∙ or_between (is_among (at + 1) n a) (at == a) (is_in others a)
 
-or_false : (x : Bool) → (x || false) ≡ x
-or_false true = refl
-or_false false = refl
-
 or_turned : (x y : Bool) → (y || x) ≡ (x || y)
 or_turned true true = refl
 or_turned true false = refl
@@ -90,10 +87,10 @@ or_turned false false = refl
 
 in_reads : (r : Reads) (a : ℕ) → has_read r a ≡ is_in (addresses_read r) a
 in_reads reads.Nothing a = refl
-in_reads (reads.One first) a = sym (in_addresses (size first.width) first.at a [] ∙ or_false _)
+in_reads (reads.One first) a = sym (in_addresses (size first.width) first.at a [] ∙ or-false _)
 in_reads (reads.Two first second) a =
     or_turned (is_among second.at (size second.width) a) (is_among first.at (size first.width) a)
-    ∙ ap (λ b. is_among second.at (size second.width) a || b) (sym (in_addresses (size first.width) first.at a [] ∙ or_false _))
+    ∙ ap (λ b. is_among second.at (size second.width) a || b) (sym (in_addresses (size first.width) first.at a [] ∙ or-false _))
     ∙ sym (in_addresses (size second.width) second.at a (addresses_on (size first.width) first.at []))
 
 pub plan_reads : {A B : Type 0} (t : Reading A) (s : State) (words : List ℕ) (meaning : B → A) (result : Option B) (after : Words)
@@ -101,4 +98,4 @@ pub plan_reads : {A B : Type 0} (t : Reading A) (s : State) (words : List ℕ) (
     → IfSome result (λ r. (a : ℕ) → has_read after.reads a ≡ asks t s words (AtByte a))
 plan_reads t s words meaning None after tells = tt
 plan_reads t s words meaning (Some r) after tells =
-    λ a. in_reads after.reads a ∙ told_asks t s words [] (meaning r, words_left after, addresses_read after.reads) a tells ∙ or_false _
+    λ a. in_reads after.reads a ∙ told_asks t s words [] (meaning r, words_left after, addresses_read after.reads) a tells ∙ or-false _

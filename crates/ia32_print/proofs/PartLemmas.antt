@@ -1,6 +1,7 @@
 -- The parts of an address and of an instruction, joined.
-use Rattle.std.proofs.Common.{◌≡◌, ℕ, Bool, true, false, cond, eqb, ◌&&◌, Some, None, List, [], ◌∷◌, ◌++◌, refl, sym, append_assoc, append-nil}
+use Rattle.std.proofs.Common.{◌≡◌, ℕ, Bool, true, false, cond, eqb, Some, None, List, [], ◌∷◌, ◌++◌, refl, sym, append_assoc, append-nil}
 use Rattle.std.specs.Prelude.{codes}
+use Rattle.std.proofs.Math.Bool.{and-false, and-true}
 use Rattle.ia32_types.specs.declared.Reg.{Reg}
 use Rattle.ia32_types.specs.declared.Mem.{Mem}
 use Rattle.ia32_types.specs.declared.Operand.{Operand}
@@ -11,14 +12,6 @@ use Rattle.ia32_print.specs.Text.{joined, address_text, scale_text, sum_text, so
 -- what stands behind a register
 abbrev pub tail_text : ℕ → List ℕ
 tail_text disp = cond (eqb disp 0) [] (codes "+" ++ address_text disp)
-
-and-false : (b : Bool) → (b && false) ≡ false
-and-false true = refl
-and-false false = refl
-
-and-true : (b : Bool) → (b && true) ≡ b
-and-true true = refl
-and-true false = refl
 
 joined-one : (part address : List ℕ) (b : Bool) → joined (codes "+") (part ∷ cond b [] (address ∷ [])) ≡ part ++ cond b [] (codes "+" ++ address)
 unfolding joined

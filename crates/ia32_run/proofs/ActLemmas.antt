@@ -1,10 +1,8 @@
 -- An extern answers at its address, where there is no code.
 use Rattle.std.proofs.Common.{◌≡◌, ◌↔◌, ℕ, zero, suc, ◌≤◌, List, [], length, take, refl, sym, ap, ◌∙◌, subst, arith}
-use Rattle.std.specs.Prelude.{Bool, true, false, if◌then◌else◌, Option, Some, None, slice_get, is_some}
-use Rattle.std.specs.Option.{option_map_or}
+use Rattle.std.specs.Prelude.{if◌then◌else◌, Option, Some, None, slice_get}
 use Rattle.std.proofs.lemmas.Option.{none-some, same_Some}
 use Rattle.image_map.specs.declared.image.Image.{Image}
-use Rattle.image_map.specs.declared.image.Segment.{Segment}
 use Rattle.image_map.specs.declared.region.Kind.{Kind}
 use Rattle.image_map.specs.declared.region.Settings.{Settings}
 use Rattle.image_map.specs.Memory.{has_flag, segment_at}
@@ -19,15 +17,12 @@ use Rattle.ia32_memory.proofs.StartLaws.{segment_low}
 use Rattle.ia32_semantics.specs.Fetch.{code_byte, fetch_window, IsFetched}
 use Rattle.ia32_semantics.specs.Step.{Act, Executes, Answers, IsActAt}
 use Rattle.ia32_semantics.proofs.EffectLemmas.{by_test}
-
-code_there : (o : Option Segment) (test : Segment → Bool) → option_map_or test o false ≡ true → is_some o ≡ true
-code_there None test e = e
-code_there (Some s) test e = refl
+use Rattle.item_list.proofs.OptionLaws.{some_passes}
 
 no_code : (image : Image) (a : ℕ) → IsImage image → 0x7FFFFFFF ≤ a → code_byte image a ≡ None
 no_code image a whole high =
     by_test (is_code image a)
-    (λ there. absurd (let low = segment_low image a whole (code_there (segment_at image.segments a) (has_flag 1) there) in omega arith))
+    (λ there. absurd (let low = segment_low image a whole (some_passes (segment_at image.segments a) (has_flag 1) there) in omega arith))
     (λ none. ap (λ b. if b then byte_at image a else None) none)
 
 taken_none : (n : ℕ) → ◌≡◌ {A = List ℕ} (take n []) []

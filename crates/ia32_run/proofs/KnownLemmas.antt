@@ -2,7 +2,7 @@
 use Rattle.std.proofs.Common.{◌≡◌, ◌⊎◌, ◌↔◌, inl, inr, ⊎_elim, ℕ, ◌+◌, ◌<◌, List, [], ◌∷◌, ◌++◌, length, refl, sym, ap, ◌∙◌, subst, arith}
 use Rattle.std.specs.Prelude.{Bool, true, false, not, ◌&&◌, ◌==◌, nat_lt, if◌then◌else◌, Option, Some, None, Contains}
 use Rattle.std.specs.List.Sorted.{IsStrictlyIncreasing}
-use Rattle.std.proofs.lemmas.Bool.{false≢true}
+use Rattle.std.proofs.lemmas.Bool.{and_from}
 use Rattle.std.proofs.lemmas.Bool.Decides.{nat_tests}
 use Rattle.image_map.specs.declared.spans.Span.{Span}
 use Rattle.image_map.specs.Ranges.{is_any}
@@ -89,22 +89,18 @@ is_place false r = each_reg (λ r. is_location false (InRegister (reg_number r))
 is_flag_place : (skip_sp : Bool) (f : Flag) → is_location skip_sp (InFlag (flag_number f)) ≡ true
 is_flag_place skip_sp f = each_flag (λ f. is_location skip_sp (InFlag (flag_number f)) ≡ true) refl refl refl refl refl refl f
 
-both_true : (a b : Bool) → a ≡ true → b ≡ true → (a && b) ≡ true
-both_true true b e f = f
-both_true false b e f = absurd (false≢true e)
-
 module _ (touched : Touched) (skip_sp : Bool) (w : Writers) (run : List (Occurrence Act)) (o : Occurrence Act) (i : ℕ) (is : IsTouched touched (reads o)) (knows : KnowsWriters w run) where
   from_register : (r : Reg) → (has_reg touched.regs r && not (reg_number r == (if skip_sp then 4 else 8))) ≡ true → writer_at w.places (reg_number r) ≡ Some i → ReadsFrom skip_sp run o i
   from_register r wanted writer = (
     InRegister (reg_number r),
-    both_true (is_location skip_sp (InRegister (reg_number r))) (reads o (InRegister (reg_number r))) (is_place skip_sp r ∙ and_right (has_reg touched.regs r) _ wanted) (sym (is.registers r) ∙ and_left (has_reg touched.regs r) _ wanted),
+    and_from (is_location skip_sp (InRegister (reg_number r))) (reads o (InRegister (reg_number r))) (is_place skip_sp r ∙ and_right (has_reg touched.regs r) _ wanted) (sym (is.registers r) ∙ and_left (has_reg touched.regs r) _ wanted),
     sym (knows.registers r) ∙ writer,
   )
 
   from_flag : (f : Flag) → (has_flag touched.flags f && true) ≡ true → writer_at w.places (8 + flag_number f) ≡ Some i → ReadsFrom skip_sp run o i
   from_flag f wanted writer = (
     InFlag (flag_number f),
-    both_true (is_location skip_sp (InFlag (flag_number f))) (reads o (InFlag (flag_number f))) (is_flag_place skip_sp f) (sym (is.flags f) ∙ and_left (has_flag touched.flags f) true wanted),
+    and_from (is_location skip_sp (InFlag (flag_number f))) (reads o (InFlag (flag_number f))) (is_flag_place skip_sp f) (sym (is.flags f) ∙ and_left (has_flag touched.flags f) true wanted),
     sym (knows.flags f) ∙ writer,
   )
 
@@ -131,7 +127,7 @@ module _ (touched : Touched) (skip_sp : Bool) (w : Writers) (run : List (Occurre
   to_register r lt same read writer = (
     reg_number r,
     lt,
-    both_true (has_number touched.regs.0 (reg_number r)) (not (reg_number r == (if skip_sp then 4 else 8)))
+    and_from (has_number touched.regs.0 (reg_number r)) (not (reg_number r == (if skip_sp then 4 else 8)))
         (same ∙ is.registers r ∙ and_right (is_location skip_sp (InRegister (reg_number r))) _ read)
         (sym (is_place skip_sp r) ∙ and_left (is_location skip_sp (InRegister (reg_number r))) _ read),
     (let zero_more : 0 + reg_number r ≡ reg_number r = omega arith in ap (λ k. writer_at w.places k) zero_more ∙ knows.registers r ∙ writer),
@@ -143,7 +139,7 @@ module _ (touched : Touched) (skip_sp : Bool) (w : Writers) (run : List (Occurre
   to_flag f lt same low read writer = (
     flag_number f,
     lt,
-    both_true (has_number touched.flags.0 (flag_number f)) (not (flag_number f == 8))
+    and_from (has_number touched.flags.0 (flag_number f)) (not (flag_number f == 8))
         (same ∙ is.flags f ∙ and_right (is_location skip_sp (InFlag (flag_number f))) _ read) (ap not low),
     knows.flags f ∙ writer,
   )

@@ -1,22 +1,16 @@
 -- Going over spans and numbers, one after another.
-use Rattle.std.proofs.Common.{◌≡◌, ◌⊎◌, ◌↔◌, inl, inr, ⊎_elim, ℕ, zero, suc, ◌+◌, ◌-◌, ◌<◌, ◌≤◌, List, [], ◌∷◌, ◌++◌, length, drop, get_or, refl, sym, ap, ◌∙◌, subst, arith}
-use Rattle.std.specs.Prelude.{Bool, true, false, ◌&&◌, ◌||◌, nat_lt, eqb, if◌then◌else◌, Option, Some, Contains}
-use Rattle.std.specs.List.{dedup}
-use Rattle.std.specs.List.Retain.{IsFiltered, DiffersFromLast}
-use Rattle.std.specs.List.Sorted.{IsPermutation}
-use Rattle.std.proofs.lemmas.Bool.{false≢true}
+use Rattle.std.proofs.Common.{◌≡◌, ◌⊎◌, ◌↔◌, inl, inr, ⊎_elim, ℕ, ◌+◌, ◌-◌, ◌<◌, ◌≤◌, List, ◌∷◌, ◌++◌, length, drop, get_or, refl, sym, ap, ◌∙◌, subst, arith}
+use Rattle.std.specs.Prelude.{Bool, true, false, ◌&&◌, ◌||◌, nat_lt, if◌then◌else◌, Option, Some, Contains}
+use Rattle.std.proofs.lemmas.Bool.{false≢true, or_right, or_left}
 use Rattle.std.proofs.lemmas.Bool.Decides.{nat_tests}
-use Rattle.std.proofs.lemmas.List.{drop_more}
+use Rattle.std.proofs.lemmas.List.{drop_more, drop_all}
 use Rattle.std.proofs.lemmas.List.Elements.{Contains-append_left, Contains-append_right, Contains-append_cases}
-use Rattle.std.proofs.lemmas.List.Sorted.{Contains-permutation, IsPermutation-sym}
-use Rattle.std.proofs.lemmas.List.Filters.{dedup_is}
-use Rattle.std.proofs.lemmas.List.Kept.{Contains-dedup_nat, Contains-from_dedup}
 use Rattle.image_map.specs.declared.spans.Span.{Span}
 use Rattle.image_map.specs.Ranges.{is_any}
 use Rattle.ia32_semantics.proofs.EffectLemmas.{by_test, or_true}
-use Rattle.ia32_semantics.proofs.ReadingLemmas.{or_left, or_right}
 use Rattle.last_writers.specs.declared.spans.Written.{Written}
-use Rattle.last_writers.specs.Writers.{within, writer_at}
+use Rattle.last_writers.specs.Writers.{writer_at}
+use Rattle.item_list.specs.Ranges.{within}
 use Rattle.ia32_run.specs.Writers.{has_number, is_wanted, WroteNumbers, WritesSpans, WritesNumbers}
 
 -- -- An empty range
@@ -49,15 +43,9 @@ write_more spans i step old now next d lt wrote left a =
     ∙ one_then (within x.start x.end a) (is_any (drop (i + 1) spans) a) (Some step) (writer_at now a)
     ∙ ap (λ (l : List Span). if is_any l a then Some step else writer_at now a) (sym (drop_more spans i d lt)) ∙ left a
 
-dropped : {A : Type 0} (xs : List A) (i : ℕ) → length xs ≤ i → drop i xs ≡ []
-dropped [] zero le = refl
-dropped [] (suc i) le = refl
-dropped (x ∷ xs) zero le = absurd (omega arith)
-dropped (x ∷ xs) (suc i) le = dropped xs i (omega arith)
-
 pub write_all : (spans : List Span) (i step : ℕ) (old now : List Written) → length spans ≤ i → WriteLeft spans i step old now
     → (a : ℕ) → writer_at now a ≡ (if is_any spans a then Some step else writer_at old a)
-write_all spans i step old now le left a = ap (λ (l : List Span). if is_any l a then Some step else writer_at now a) (sym (dropped spans i le)) ∙ left a
+write_all spans i step old now le left a = ap (λ (l : List Span). if is_any l a then Some step else writer_at now a) (sym (drop_all i spans le)) ∙ left a
 
 -- what is still to be added
 pub record AddLeft (ws : List Written) (spans : List Span) (i : ℕ) (old now : List ℕ) : Type 0 where
@@ -92,7 +80,7 @@ pub add_all : (ws : List Written) (spans : List Span) (i : ℕ) (old now : List 
     → (k : ℕ) → Contains now k ↔ (Contains old k ⊎ WritesSpans ws spans k)
 add_all ws spans i old now le left k = (
   λ here. left.forth k (inl here),
-  λ e. ⊎_elim (λ here. here) (λ any. absurd (false≢true (sym (ap (λ (l : List Span). is_any l any.0) (dropped spans i le)) ∙ any.1))) (left.back k e),
+  λ e. ⊎_elim (λ here. here) (λ any. absurd (false≢true (sym (ap (λ (l : List Span). is_any l any.0) (drop_all i spans le)) ∙ any.1))) (left.back k e),
 )
 
 -- -- Numbers
@@ -155,14 +143,6 @@ added_one ws bits skip low n old now next added before = record {
 }
 
 -- -- Lists that rise
-
--- sorting and leaving out repeats keeps each number
-pub sorted_kept : (old sorted new : List ℕ) (k : ℕ) → IsPermutation old sorted → IsFiltered (DiffersFromLast eqb) [] sorted new → Contains new k ↔ Contains old k
-sorted_kept old sorted new k moved filtered =
-    let is : new ≡ dedup eqb sorted = dedup_is eqb sorted new filtered in (
-      λ among. Contains-permutation sorted old k (IsPermutation-sym old sorted moved) (Contains-from_dedup eqb sorted k (subst (λ xs. Contains xs k) is among)),
-      λ among. subst (λ xs. Contains xs k) (sym is) (Contains-dedup_nat sorted k (Contains-permutation old sorted k moved among)),
-    )
 
 pub spans_added : (old steps new : List ℕ) (i : ℕ) (P : Type 0) → new ≡ old ++ steps → (Contains steps i ↔ P) → Contains new i ↔ (Contains old i ⊎ P)
 spans_added old steps new i P is all = (

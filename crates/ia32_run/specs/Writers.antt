@@ -6,7 +6,7 @@ use Rattle.std.specs.Int.RustNames.{bit_and}
 use Rattle.image_map.specs.declared.spans.Span.{Span}
 use Rattle.image_map.specs.Ranges.{is_any}
 use Rattle.last_writers.specs.declared.spans.Written.{Written}
-use Rattle.last_writers.specs.Writers.{within, writer_at}
+use Rattle.last_writers.specs.Writers.{writer_at}
 use Rattle.ia32_types.specs.declared.Reg.{Reg}
 use Rattle.ia32_types.specs.declared.Flag.{Flag}
 use Rattle.ia32_types.specs.Numbers.{reg_number, flag_number}
@@ -14,6 +14,7 @@ use Rattle.ia32_semantics.specs.State.{InRegister, InFlag, AtByte}
 use Rattle.ia32_semantics.specs.Machine.{Occurrence}
 use Rattle.ia32_semantics.specs.Step.{Act, forgets}
 use Rattle.ia32_semantics.specs.Outcome.{is_in_stack, is_below}
+use Rattle.item_list.specs.Ranges.{within}
 use Rattle.ia32_run.specs.LastWrites.{last_writer, ReadsFrom}
 use Rattle.ia32_run.specs.declared.writers.Writers.{Writers}
 

@@ -2,12 +2,13 @@
 
 ghost use Rattle.std.specs.Prelude.{◌≡◌, ℕ, OnOk, [], ◌∷◌, ◌++◌};
 ghost use Rattle.image_map.specs.declared.image.Image.{Image};
+ghost use Rattle.image_map.specs.Shapes.{shapes};
 ghost use Rattle.ia32_semantics.specs.Effects.{Whole, sets, all_changed};
 ghost use Rattle.ia32_semantics.specs.Operands.{is_set as is_set_spec};
 ghost use Rattle.ia32_semantics.specs.Outcome.{is_in_stack};
 ghost use Rattle.ia32_semantics.specs.Rows.{risen};
 ghost use Rattle.ia32_semantics.specs.Externs.{result_effects, answered};
-ghost use Rattle.ia32_memory.specs.Mapped.{shapes, is_in_first};
+ghost use Rattle.ia32_memory.specs.Mapped.{is_in_first};
 ghost use Rattle.ia32_plan.specs.Views.{state_of};
 ghost use Rattle.ia32_machine.specs.Machines as machines;
 ghost use Rattle.ia32_machine.specs.Steps.{performed};

@@ -2,7 +2,8 @@
 
 ghost use Rattle.std.specs.Prelude.{◌-◌, ◌^◌, min, List, [], ◌∷◌, ◌++◌, length, None, ◌≡◌, ◌↔◌, ◌⊎◌, ℕ, ◌<◌, ◌+◌, ◌≤◌, ◌&&◌, true, if◌then◌else◌, Some, Contains, OnOk, IfOk};
 ghost use Rattle.std.specs.List.Sorted.{IsStrictlyIncreasing};
-ghost use Rattle.last_writers.specs.Writers.{within, writer_at};
+ghost use Rattle.item_list.specs.Ranges.{within};
+ghost use Rattle.last_writers.specs.Writers.{writer_at};
 ghost use Rattle.ia32_semantics.specs.Machine.{Occurrence};
 ghost use Rattle.ia32_semantics.specs.Outcome.{is_in_stack, is_below};
 ghost use Rattle.ia32_semantics.specs.Step.{Act, reads as reads_spec, writes};

@@ -1,8 +1,9 @@
 -- The registers and flags that storing into operands and setting flags changes are those of the tables.
 use Rattle.std.proofs.Common.{◌≡◌, ℕ, List, [], ◌∷◌, ◌++◌, refl, sym, ap, ◌∙◌}
 use Rattle.std.specs.Prelude.{Bool, true, false, ◌||◌, ◌&&◌, ◌==◌, Option, Some, None}
-use Rattle.std.proofs.lemmas.Bool.{false≢true}
+use Rattle.std.proofs.lemmas.Bool.{false≢true, or_right, or_left}
 use Rattle.std.proofs.lemmas.List.Folds.{list_any-append}
+use Rattle.std.proofs.Math.Bool.{or_assoc, or-false}
 use Rattle.ia32_types.specs.declared.Reg.{Reg}
 use Rattle.ia32_types.specs.declared.Flag.{Flag}
 use Rattle.ia32_types.specs.declared.Width.{Width}
@@ -20,7 +21,6 @@ use Rattle.ia32_semantics.specs.Effects.{Effect, Whole, Word, Low, High, sets, t
 use Rattle.ia32_semantics.specs.Operands.{address, part_of, store, store_to, is_set, any_word, any_flag, any_flags, flag_effect, flag_effects}
 use Rattle.ia32_semantics.specs.Laws.{has_register}
 use Rattle.ia32_semantics.proofs.EffectLemmas.{or_true}
-use Rattle.ia32_semantics.proofs.ReadingLemmas.{or_left, or_right}
 use Rattle.ia32_semantics.proofs.WithinLemmas.{Within, within_gives, within_faults, within_bind, within_choice, within_if}
 use Rattle.ia32_semantics.proofs.OperandLemmas.{in_tables, HasAll, Anything, address_within}
 
@@ -35,17 +35,13 @@ none n = false
 
 -- -- Lists of effects
 
-or_assoc : (a b c : Bool) → (a || (b || c)) ≡ (a || b || c)
-or_assoc true b c = refl
-or_assoc false b c = refl
-
 pub write_append : (es fs : List Effect) (l : Location) → effects_write (es ++ fs) l ≡ (effects_write es l || effects_write fs l)
 write_append [] fs l = refl
-write_append (e ∷ es) fs l = ap (λ b. effect_writes e l || b) (write_append es fs l) ∙ or_assoc (effect_writes e l) (effects_write es l) (effects_write fs l)
+write_append (e ∷ es) fs l = ap (λ b. effect_writes e l || b) (write_append es fs l) ∙ sym (or_assoc (effect_writes e l) (effects_write es l) (effects_write fs l))
 
 pub take_append : (es fs : List Effect) (l : Location) → effects_take (es ++ fs) l ≡ (effects_take es l || effects_take fs l)
 take_append [] fs l = refl
-take_append (e ∷ es) fs l = ap (λ b. effect_takes e l || b) (take_append es fs l) ∙ or_assoc (effect_takes e l) (effects_take es l) (effects_take fs l)
+take_append (e ∷ es) fs l = ap (λ b. effect_takes e l || b) (take_append es fs l) ∙ sym (or_assoc (effect_takes e l) (effects_take es l) (effects_take fs l))
 
 pub changes_both : (p q f g : ℕ → Bool) (t u : List Reg) (es fs : List Effect) → Changes p f t es → Changes q g u fs
     → Changes (λ n. p n || q n) (λ n. f n || g n) (t ++ u) (es ++ fs)
@@ -122,14 +118,10 @@ pub record AreDrawn (f g : FlagsOut) : Type 0 where
   pub sf : IsDrawn f.sf g.sf
   pub of : IsDrawn f.of g.of
 
-or_false : (a : Bool) → (a || false) ≡ a
-or_false true = refl
-or_false false = refl
-
 drawn_written : (k : ℕ) (f g : FlagOut) → IsDrawn f g → (n : ℕ) → effects_write (flag_effect k g) (InFlag n) ≡ (is_written f && k == n)
 drawn_written k out.Kept g drawn n = ap (λ x. effects_write (flag_effect k x) (InFlag n)) drawn
-drawn_written k (out.Set v) g drawn n = ap (λ x. effects_write (flag_effect k x) (InFlag n)) drawn.1 ∙ or_false (k == n)
-drawn_written k out.Undefined g drawn n = ap (λ x. effects_write (flag_effect k x) (InFlag n)) drawn.1 ∙ or_false (k == n)
+drawn_written k (out.Set v) g drawn n = ap (λ x. effects_write (flag_effect k x) (InFlag n)) drawn.1 ∙ or-false (k == n)
+drawn_written k out.Undefined g drawn n = ap (λ x. effects_write (flag_effect k x) (InFlag n)) drawn.1 ∙ or-false (k == n)
 
 one_flag : (k : ℕ) (g : FlagOut) → Changes none (λ n. effects_write (flag_effect k g) (InFlag n)) [] (flag_effect k g)
 one_flag k out.Kept = record { registers = λ n. refl; flags = λ n. refl; takes = λ n e. e }

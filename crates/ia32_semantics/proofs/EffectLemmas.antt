@@ -1,13 +1,13 @@
 -- What effects leave alone, what they make of it, and that they keep registers and bytes in their ranges.
 use Rattle.std.proofs.Common.{◌≡◌, ℕ, zero, suc, ◌+◌, ◌*◌, ◌/◌, ◌%◌, ◌^◌, ◌<◌, List, [], ◌∷◌, refl, sym, ap, subst, ◌∙◌, eqb-true, arith}
 use Rattle.std.specs.Prelude.{Bool, true, false, cond, not, ◌&&◌, ◌||◌, ◌==◌, Some, is_some}
-use Rattle.std.proofs.lemmas.Bool.{false≢true}
+use Rattle.std.proofs.lemmas.Bool.{false≢true, or_right, or_left, and_from, not_from_false}
 use Rattle.std.proofs.lemmas.Option.{same_Some}
 use Rattle.image_map.specs.declared.image.Image.{Image}
 use Rattle.image_map.specs.Queries.{is_in_segment, is_writable}
 use Rattle.ia32_semantics.specs.State.{State, Bytes, Location, InRegister, InFlag, AtByte, SameAt, put}
 use Rattle.ia32_semantics.specs.Effects.{Effect, Part, Whole, Word, Low, High, sets, turns, stores, copies, with_part, overwritten, byte_or_zero, bytes_from, changed, all_changed, is_among, is_of_bytes, is_whole, effect_writes, effects_write, effect_takes, effects_take, is_open, all_among, all_of_bytes, is_mapped, effect_fits, effects_fit}
-use Rattle.ia32_semantics.proofs.ReadingLemmas.{AgreeOn, or_left, or_right, same_number}
+use Rattle.ia32_semantics.proofs.ReadingLemmas.{AgreeOn, same_number}
 
 -- -- Truth values
 
@@ -34,10 +34,6 @@ and_left false b e = e
 pub and_right : (a b : Bool) → (a && b) ≡ true → b ≡ true
 and_right true b e = e
 and_right false b e = absurd (false≢true e)
-
-pub and_both : (a b : Bool) → a ≡ true → b ≡ true → (a && b) ≡ true
-and_both true b e f = f
-and_both false b e f = e
 
 -- -- A function with one place changed
 
@@ -126,13 +122,10 @@ part_same Word old other value same = ap (λ r. r / 65536 * 65536 + value % 6553
 part_same Low old other value same = ap (λ r. r / 256 * 256 + value % 256) (same refl)
 part_same High old other value same = ap (λ r. r / 65536 * 65536 + value % 256 * 256 + r % 256) (same refl)
 
-not_false : (b : Bool) → b ≡ false → not b ≡ true
-not_false b e = ap not e
-
 pub changed_follows : (e : Effect) (s t : State) (l : Location) → AgreeOn (effect_takes e) s t → effect_writes e l ≡ true → SameAt l (changed e s) (changed e t)
 changed_follows (sets part n value) s t (InRegister m) agree written =
     put_here s.registers n (with_part part (s.registers n) value) m written
-    ∙ part_same part (s.registers n) (t.registers n) value (λ some. agree.same (InRegister n) (and_both (not (is_whole part)) (n == n) (not_false (is_whole part) some) (same_number n)))
+    ∙ part_same part (s.registers n) (t.registers n) value (λ some. agree.same (InRegister n) (and_from (not (is_whole part)) (n == n) (not_from_false (is_whole part) some) (same_number n)))
     ∙ sym (put_here t.registers n (with_part part (t.registers n) value) m written)
 changed_follows (sets part n value) s t (InFlag m) agree written = absurd (false≢true written)
 changed_follows (sets part n value) s t (AtByte x) agree written = absurd (false≢true written)

@@ -1,7 +1,7 @@
 -- The registers and flags that operands and flags ask for, and those that storing into them changes, are in the tables.
 use Rattle.std.proofs.Common.{◌≡◌, ℕ, zero, suc, ◌+◌, ◌*◌, List, [], ◌∷◌, ◌++◌, refl, sym, ◌∙◌, eq-eqb}
 use Rattle.std.specs.Prelude.{Bool, true, false, ◌==◌, Option, Some, None, option_to_list}
-use Rattle.std.proofs.lemmas.Bool.{false≢true}
+use Rattle.std.proofs.lemmas.Bool.{false≢true, or_right, or_left}
 use Rattle.std.proofs.lemmas.List.Folds.{list_any-append}
 use Rattle.ia32_types.specs.declared.Reg.{Reg}
 use Rattle.ia32_types.specs.declared.Flag.{Flag}
@@ -16,7 +16,6 @@ use Rattle.ia32_semantics.specs.State.{State, Location, InRegister, InFlag, AtBy
 use Rattle.ia32_semantics.specs.Reading.{gives, register}
 use Rattle.ia32_semantics.specs.Operands.{size, low_part, whole_register, flag_value, any_word, stored_number, register_or_zero, address, memory_value, value, value_of, address_of}
 use Rattle.ia32_semantics.specs.Laws.{has_register, has_flag}
-use Rattle.ia32_semantics.proofs.ReadingLemmas.{or_left, or_right}
 use Rattle.ia32_semantics.proofs.EffectLemmas.{or_true}
 use Rattle.ia32_semantics.proofs.WithinLemmas.{Within, within_gives, within_faults, within_bind, within_register, within_flag, within_byte, within_choice}
 

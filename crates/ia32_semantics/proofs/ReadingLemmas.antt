@@ -1,6 +1,7 @@
 -- What a reading that goes on with another gives and asks for, and that it gives the same where all that it asks for is the same.
 use Rattle.std.proofs.Common.{◌≡◌, ℕ, List, [], ◌∷◌, refl, sym, ap, ◌∙◌, eq-eqb}
 use Rattle.std.specs.Prelude.{Bool, true, false, ◌||◌, ◌==◌, Option, Some, None}
+use Rattle.std.proofs.lemmas.Bool.{or_right, or_left}
 use Rattle.ia32_semantics.specs.State.{State, Location, InRegister, InFlag, AtByte, SameAt}
 use Rattle.ia32_semantics.specs.Reading.{Reading, gives, faults, register, flag, byte, choice, ◌>>=◌, with_byte, outcome, asks, is_register, is_flag, is_byte}
 
@@ -53,14 +54,6 @@ asks_bind (choice more) k s [] l = refl
 asks_bind (choice more) k s (word ∷ words) l = asks_bind (more word) k s words l
 
 -- -- The same where the same is asked for
-
-pub or_left : (a b : Bool) → a ≡ true → (a || b) ≡ true
-or_left true b e = refl
-or_left false b e = cc
-
-pub or_right : (a b : Bool) → b ≡ true → (a || b) ≡ true
-or_right true b e = refl
-or_right false b e = e
 
 pub same_number : (n : ℕ) → (n == n) ≡ true
 same_number n = eq-eqb n n refl

@@ -2,6 +2,7 @@
 use Rattle.std.proofs.Common.{◌≡◌, ℕ, ◌%◌, List, [], ◌∷◌, refl, sym, ap, ◌∙◌, arith}
 use Rattle.std.specs.Prelude.{Bool, true, false, ◌||◌, ◌&&◌, ◌==◌, if◌then◌else◌, nat_le, Option, Some, None}
 use Rattle.std.proofs.lemmas.Bool.{false≢true}
+use Rattle.std.proofs.Math.Bool.{or-false}
 use Rattle.ia32_types.specs.declared.Reg.{Reg}
 use Rattle.ia32_types.specs.declared.Flag.{Flag}
 use Rattle.ia32_types.specs.declared.Flag.TheVariants.{Cf, Of}
@@ -23,7 +24,7 @@ use Rattle.ia32_semantics.proofs.EffectLemmas.{by_test}
 use Rattle.ia32_semantics.proofs.WithinLemmas.{Within, within_gives, within_bind}
 use Rattle.ia32_semantics.proofs.OperandLemmas.{in_tables, HasAll, has_none, has_both, place_in_value, Anything, value_within}
 use Rattle.ia32_semantics.proofs.ChangeLemmas.{none, changes_both, Stored, store_within, AreDrawn, outs, flags_change, flags_within, is_written}
-use Rattle.ia32_semantics.proofs.TableLemmas.{Meets, or_false}
+use Rattle.ia32_semantics.proofs.TableLemmas.{Meets}
 
 -- the flags that a shift or a rotate writes by a count other than 0
 abbrev pub shift_table : Op → List Flag
@@ -54,10 +55,10 @@ five_outs : (carry overflow : Bool) (n : ℕ) → carry ≡ true → overflow �
 five_outs carry overflow n c o =
     ap (λ b. (b && 0 == n) || (1 == n || (2 == n || (3 == n || (overflow && 4 == n))))) c
     ∙ ap (λ b. 0 == n || (1 == n || (2 == n || (3 == n || (b && 4 == n))))) o
-    ∙ ap (λ b. 0 == n || (1 == n || (2 == n || (3 == n || b)))) (sym (or_false (4 == n)))
+    ∙ ap (λ b. 0 == n || (1 == n || (2 == n || (3 == n || b)))) (sym (or-false (4 == n)))
 
 two_outs : (overflow : Bool) (n : ℕ) → overflow ≡ true → (0 == n || (overflow && 4 == n)) ≡ has_flag (Cf ∷ Of ∷ []) n
-two_outs overflow n o = ap (λ b. 0 == n || (b && 4 == n)) o ∙ ap (λ b. 0 == n || b) (sym (or_false (4 == n)))
+two_outs overflow n o = ap (λ b. 0 == n || (b && 4 == n)) o ∙ ap (λ b. 0 == n || b) (sym (or-false (4 == n)))
 
 by_outs : (w a n k : ℕ) {o : Op} → IsShiftOp o → outs (shift_flags_by w o a n) k ≡ has_flag (shift_table o) k
 unfolding shift_flags_by left_flags right_flags signed_flags rotated_left_flags rotated_right_flags result_flags kept_flags
@@ -138,9 +139,9 @@ shifted_within s reads asked x o i is first second =
     changes (flags_change (shift_flags (bits i.width) o a count) flags drawn) in
     within_gives s R (Meets reads (places.target_of i.dst) (places.unless_by_zero i.src (shift_table o)) x (is_number i.src)) _ (record {
       takes = λ n e. (has_both reads (places.place_of i.width i.dst) [] place (has_none reads)).each n (both.takes n e);
-      registers = λ n e. sym (both.registers n ∙ or_false _) ∙ e;
+      registers = λ n e. sym (both.registers n ∙ or-false _) ∙ e;
       flags = λ n e. in_shift_table i.src (bits i.width) o a count n is counted (sym (both.flags n) ∙ e);
-      all_registers = λ sure n e. both.registers n ∙ or_false _ ∙ e;
+      all_registers = λ sure n e. both.registers n ∙ or-false _ ∙ e;
       all_flags = λ sure n e. both.flags n ∙ all_of_table i.src (bits i.width) o a count n is counted sure e;
     })))))
   where

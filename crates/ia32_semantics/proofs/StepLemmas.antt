@@ -2,7 +2,7 @@
 use Rattle.std.proofs.Common.{◌≡◌, ℕ, ◌%◌, ◌^◌, ◌<◌, List, [], ◌∷◌, ◌++◌, refl, sym, ap, subst, ◌∙◌, arith, inl, inr}
 use Rattle.std.specs.Prelude.{Bool, true, false, cond, not, ◌&&◌, ◌||◌, ◌==◌, ◌⊎◌, filter, map, Option, Some, None, is_some, if◌then◌else◌}
 use Rattle.std.specs.List.{list_any}
-use Rattle.std.proofs.lemmas.Bool.{false≢true}
+use Rattle.std.proofs.lemmas.Bool.{false≢true, or_right, or_left}
 use Rattle.std.proofs.lemmas.Option.{same_Some}
 use Rattle.std.proofs.lemmas.List.{map-append}
 use Rattle.std.proofs.lemmas.List.Elements.{filter-append}
@@ -19,7 +19,7 @@ use Rattle.ia32_semantics.specs.Outcome.{Outcome, Given, made, can_move, is_in_s
 use Rattle.ia32_semantics.specs.Step.{Act, Step, act_row, outcome_takes, outcome_writes, outcome_forgets, reads, writes, forgets}
 use Rattle.ia32_semantics.specs.CallModel.{IsEntrySlot, IsLaidOut, AreBlocks, block_of, gives_block, blocks_given}
 use Rattle.ia32_semantics.specs.Laws.{ChangesOnlyWrites, WritesFollowReads, StepsStaySized, StepsStayLaidOut}
-use Rattle.ia32_semantics.proofs.ReadingLemmas.{AgreeOn, same_outcome, or_left, or_right}
+use Rattle.ia32_semantics.proofs.ReadingLemmas.{AgreeOn, same_outcome}
 use Rattle.ia32_semantics.proofs.EffectLemmas.{by_test, and_left, effects_keep, effects_agree, effects_map, written_is_open, effects_sizes, same_slot}
 
 -- -- What a step did

@@ -1,6 +1,7 @@
 -- Each row asks only for the registers and flags of its tables, and writes those.
 use Rattle.std.proofs.Common.{◌≡◌, ℕ, ◌+◌, ◌/◌, List, [], ◌∷◌, ◌++◌, refl, sym, ap, ◌∙◌, ◌%◌, ◌^◌}
 use Rattle.std.specs.Prelude.{Bool, true, false, ◌||◌, ◌==◌, if◌then◌else◌, Option, Some, None}
+use Rattle.std.proofs.Math.Bool.{or-false}
 use Rattle.std.proofs.lemmas.List.Folds.{list_any-append}
 use Rattle.ia32_types.specs.declared.Reg.{Reg}
 use Rattle.ia32_types.specs.declared.Reg.TheVariants.{Eax, Edx, Esp, Ebp}
@@ -47,10 +48,6 @@ exactly reads writes turned x y p f t done changes same_registers same_flags all
   all_flags = λ sure n e. changes.flags n ∙ same_flags n ∙ e;
 }
 
-pub or_false : (a : Bool) → (a || false) ≡ a
-or_false true = refl
-or_false false = refl
-
 pub or_swap : (a b : Bool) → (a || b) ≡ (b || a)
 or_swap true true = refl
 or_swap true false = refl
@@ -73,7 +70,7 @@ module _ (s : State) (reads : List Reg) (asked : List Flag) (x y : Bool) where
       within_gives s R (Meets reads (places.target_of i.dst) turned x y) _
       (exactly reads (places.target_of i.dst) turned x y _ _ (places.place_of i.width i.dst ++ []) _
       (changes_both (has_register (places.target_of i.dst)) none none (has_flag turned) (places.place_of i.width i.dst) [] stored fs changes flags)
-      (λ n. or_false _) (λ n. refl) (has_both reads (places.place_of i.width i.dst) [] all (has_none reads)))
+      (λ n. or-false _) (λ n. refl) (has_both reads (places.place_of i.width i.dst) [] all (has_none reads)))
 
   pub just_stored : (i : Instr) (stored : List Effect) → HasAll reads (places.place_of i.width i.dst)
       → Stored i.width i.dst stored → Within s R (Meets reads (places.target_of i.dst) [] x y) (goes_on i stored)
@@ -269,7 +266,7 @@ module _ (s : State) (reads : List Reg) (asked : List Flag) (x y : Bool) where
       (exactly reads (places.target_of i.dst ++ (Esp ∷ [])) [] x y _ _ (places.place_of i.width (raised i.dst)) _
       (record { registers = λ n. refl; flags = changes.flags; takes = changes.takes })
       (λ n. ap (λ b. 4 == n || b) (changes.registers n ∙ raised_target i.dst n) ∙ or_swap (4 == n) (has_register (places.target_of i.dst) n)
-      ∙ ap (λ b. has_register (places.target_of i.dst) n || b) (sym (or_false (4 == n)))
+      ∙ ap (λ b. has_register (places.target_of i.dst) n || b) (sym (or-false (4 == n)))
       ∙ sym (list_any-append (λ r. reg_number r == n) (places.target_of i.dst) (Esp ∷ [])))
       (λ n. refl) (raised_within i.width i.dst first)))))
 

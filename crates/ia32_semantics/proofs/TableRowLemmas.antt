@@ -2,6 +2,7 @@
 use Rattle.std.proofs.Common.{◌≡◌, ℕ, zero, suc, List, [], ◌∷◌, ◌++◌, refl, sym, ap, ◌∙◌}
 use Rattle.std.specs.Prelude.{Bool, true, false, ◌||◌, ◌==◌, Option, Some, None}
 use Rattle.std.proofs.lemmas.Bool.{false≢true}
+use Rattle.std.proofs.Math.Bool.{or-false}
 use Rattle.ia32_types.specs.declared.Reg.{Reg}
 use Rattle.ia32_types.specs.declared.Reg.TheVariants.{Eax, Ecx, Edx, Esi, Edi}
 use Rattle.ia32_types.specs.declared.Flag.{Flag}
@@ -26,12 +27,12 @@ use Rattle.ia32_semantics.specs.Laws.{has_register, has_flag}
 use Rattle.ia32_semantics.proofs.WithinLemmas.{Within, within_gives, within_faults, within_bind, within_if}
 use Rattle.ia32_semantics.proofs.OperandLemmas.{in_tables, HasAll, has_first, has_none, has_both, Anything, register_within, flag_within, value_within}
 use Rattle.ia32_semantics.proofs.ChangeLemmas.{Changes, none, changes_both, Stored, store_within, AreDrawn, flags_change, flags_within}
-use Rattle.ia32_semantics.proofs.TableLemmas.{Meets, exactly, or_false, FlagsOf, stored_and_turned, done_with}
+use Rattle.ia32_semantics.proofs.TableLemmas.{Meets, exactly, FlagsOf, stored_and_turned, done_with}
 
 -- -- All five flags
 
 closed : (a b c d e : Bool) → (a || (b || (c || (d || e)))) ≡ (a || (b || (c || (d || (e || false)))))
-closed a b c d e = ap (λ v. a || (b || (c || (d || v)))) (sym (or_false e))
+closed a b c d e = ap (λ v. a || (b || (c || (d || v)))) (sym (or-false e))
 
 -- where each of the five is drawn or set
 all_five : (g : FlagsOut) → AreDrawn division_flags g → FlagsOf places.arithmetic_flags (flag_effects g)
@@ -77,7 +78,7 @@ module _ (s : State) (reads : List Reg) (asked : List Flag) (x y : Bool) where
       (exactly reads (places.product_writes i.width) places.arithmetic_flags x y _ _ (places.product_reads i.width ++ []) _
       (changes_both (has_register (places.product_writes i.width)) none none (has_flag places.arithmetic_flags) (places.product_reads i.width) [] _ _
       (halves_change i.width _ _) (all_five _ (product_drawn (bits i.width) signed _ _ drawn is)))
-      (λ n. or_false _) (λ n. refl) (has_both reads (places.product_reads i.width) [] factors (has_none reads))))))
+      (λ n. or-false _) (λ n. refl) (has_both reads (places.product_reads i.width) [] factors (has_none reads))))))
 
   pub multiplied_into_within : (i : Instr) (first second : Option Operand) → HasAll reads (places.place_of i.width i.dst)
       → HasAll reads (places.value_of first) → HasAll reads (places.value_of second)
@@ -116,7 +117,7 @@ module _ (s : State) (reads : List Reg) (asked : List Flag) (x y : Bool) where
       (exactly reads (places.quotient_places i.width) places.arithmetic_flags x y _ _ (places.quotient_places i.width ++ []) _
       (changes_both (has_register (places.quotient_places i.width)) none none (has_flag places.arithmetic_flags) (places.quotient_places i.width) [] _ _
       (quotient_changes i.width _ _) (all_five drawn is))
-      (λ n. or_false _) (λ n. refl) (has_both reads (places.quotient_places i.width) [] parts_all (has_none reads)))))))
+      (λ n. or-false _) (λ n. refl) (has_both reads (places.quotient_places i.width) [] parts_all (has_none reads)))))))
 
 -- -- Strings
 

@@ -1,5 +1,5 @@
 -- Where an address stands among spans that rise, and what cutting them there leaves.
-use Rattle.std.proofs.Common.{◌≡◌, ℕ, suc, zero, ◌+◌, ◌≤◌, ◌<◌, min, max, Bool, true, false, ◌||◌, cond, nat_le, nat_lt, ltb, leb, Some, None, List, [], ◌∷◌, ◌++◌, length, take, drop, get_or, refl, ap, ◌∙◌, sym, subst, append_assoc, arith}
+use Rattle.std.proofs.Common.{◌≡◌, ℕ, suc, zero, ◌+◌, ◌≤◌, ◌<◌, min, max, Bool, true, false, ◌||◌, cond, nat_le, nat_lt, ltb, leb, Some, None, List, [], ◌∷◌, ◌++◌, length, take, drop, get_or, refl, ap, ◌∙◌, sym, append_assoc, arith}
 use Rattle.std.specs.Prelude.{slice_get}
 use Rattle.std.specs.List.Sorted.{IsNonDecreasingBy, IsPartitionPoint}
 use Rattle.std.specs.Option.{option_to_list, option_map_or}
@@ -7,13 +7,11 @@ use Rattle.std.proofs.lemmas.Bool.{ltb-true, ltb-false, leb-true, leb-false}
 use Rattle.std.proofs.lemmas.Bool.Decides.{nat_tests}
 use Rattle.std.proofs.lemmas.List.Sums.{prefix_len_is}
 use Rattle.std.proofs.lemmas.Option.{slice_get_past}
+use Rattle.std.proofs.Math.Seq.{drop-nil}
+use Rattle.item_list.proofs.TruthLaws.{counted}
+use Rattle.item_list.specs.Ranges.{within}
 use Rattle.image_map.specs.declared.spans.Span.{Span}
-use Rattle.image_map.specs.Ranges.{within, is_any, IsRisingFrom, IsRising, below, above, passed, low_part, high_part, middle_part, replaced}
-
--- a fact of a count, from the fact of one more and of none
-counted : (b : Bool) (n : ℕ) (P : ℕ → Type 0) → (b ≡ true → P (suc n)) → (b ≡ false → P 0) → P (cond b (1 + n) 0)
-counted true n P here there = let e : suc n ≡ 1 + n = omega arith in subst P e (here refl)
-counted false n P here there = there refl
+use Rattle.image_map.specs.Ranges.{is_any, IsRisingFrom, IsRising, below, above, passed, low_part, high_part, middle_part, replaced}
 
 -- each span that rises from a place ends above it
 ends_above : (low k : ℕ) (ss : List Span) (d : Span) → IsRisingFrom low ss → k < length ss → low ≤ (get_or ss k d).end
@@ -133,13 +131,9 @@ passed_more a b (s ∷ ss) le =
 pub point_is : (a i : ℕ) (ss : List Span) (d : Span) → i ≤ length ss → IsPartitionPoint (λ (s : Span). leb s.end a ≡ true) (λ s. leb s.end a ≡ false) ss i → i ≡ passed a ss
 point_is a i ss d le p = sym (prefix_len_is (λ (s : Span). leb s.end a) ss i d le (λ k lt. p.0 k d (omega arith) lt) (λ lt. p.1 i d (omega arith) lt))
 
-none_dropped : {A : Type 0} (n : ℕ) → drop {A = A} n [] ≡ []
-none_dropped zero = refl
-none_dropped (suc n) = refl
-
 -- the spans behind the last, and those behind none
 pub behind_none : (n : ℕ) (ss : List Span) → length ss ≤ n → drop n ss ≡ drop (n + 1) ss
-behind_none n [] le = none_dropped n ∙ sym (none_dropped (n + 1))
+behind_none n [] le = drop-nil n ∙ sym (drop-nil (n + 1))
 behind_none zero (s ∷ ss) le = absurd (omega arith)
 behind_none (suc n) (s ∷ ss) le =
     let more : suc n + 1 ≡ suc (n + 1) = omega arith in

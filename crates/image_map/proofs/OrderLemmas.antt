@@ -11,7 +11,7 @@ use Rattle.image_map.specs.Regions.{rank, number, region_cmp, same_region, regio
 
 -- -- Every total order
 
-less : (o : Ordering) → is_lt o ≡ true → o ≡ Less
+pub less : (o : Ordering) → is_lt o ≡ true → o ≡ Less
 less Less h = refl
 less Equal h = absurd (cc)
 less Greater h = absurd (cc)

@@ -1,28 +1,12 @@
 -- Spans that are cut at an address, and put together again.
-use Rattle.std.proofs.Common.{◌≡◌, ℕ, ◌≤◌, ◌<◌, min, max, Bool, true, false, ◌&&◌, ◌||◌, cond, nat_le, nat_lt, if◌then◌else◌, List, [], ◌∷◌, ◌++◌, refl, ap, ◌∙◌, sym, subst, append_assoc, arith}
-use Rattle.std.proofs.lemmas.Bool.{ltb-true}
+use Rattle.std.proofs.Common.{◌≡◌, ℕ, ◌≤◌, ◌<◌, min, max, Bool, true, false, ◌&&◌, ◌||◌, nat_le, nat_lt, if◌then◌else◌, List, [], ◌∷◌, ◌++◌, refl, ap, ◌∙◌, sym, subst, append_assoc, arith}
+use Rattle.std.proofs.lemmas.Bool.{ltb-true, cond_both}
 use Rattle.std.proofs.lemmas.Bool.Decides.{nat_tests}
 use Rattle.std.proofs.lemmas.List.Folds.{list_any-append}
+use Rattle.item_list.proofs.RangeLaws.{cut_below, none_below, cut_above, none_above}
+use Rattle.item_list.specs.Ranges.{within}
 use Rattle.image_map.specs.declared.spans.Span.{Span}
-use Rattle.image_map.specs.Ranges.{within, is_any, IsRisingFrom, IsRising, below, above, replaced}
-
--- a fact of a choice, from the fact of each side
-pub choice : {A : Type 0} (b : Bool) (x y : A) (P : A → Type 0) → (b ≡ true → P x) → (b ≡ false → P y) → P (cond b x y)
-choice true x y P here there = here refl
-choice false x y P here there = there refl
-
--- one span, cut
-cut_below : (low high limit a : ℕ) → nat_lt low limit ≡ true → within low (min high limit) a ≡ (within low high a && nat_lt a limit)
-cut_below low high limit a h = grind (arith, nat_tests)
-
-none_below : (low high limit a : ℕ) → nat_lt low limit ≡ false → (within low high a && nat_lt a limit) ≡ false
-none_below low high limit a h = grind (arith, nat_tests)
-
-cut_above : (low high limit a : ℕ) → nat_lt limit high ≡ true → within (max low limit) high a ≡ (within low high a && nat_le limit a)
-cut_above low high limit a h = grind (arith, nat_tests)
-
-none_above : (low high limit a : ℕ) → nat_lt limit high ≡ false → (within low high a && nat_le limit a) ≡ false
-none_above low high limit a h = grind (arith, nat_tests)
+use Rattle.image_map.specs.Ranges.{is_any, IsRisingFrom, IsRising, below, above, replaced}
 
 or_and : (p q r : Bool) → ((p && r) || (q && r)) ≡ ((p || q) && r)
 or_and true true r = grind arith
@@ -38,7 +22,7 @@ or_none false q r h = grind arith
 pub is_any-below : (limit : ℕ) (ss : List Span) (a : ℕ) → is_any (below limit ss) a ≡ (is_any ss a && nat_lt a limit)
 is_any-below limit [] a = refl
 is_any-below limit (s ∷ ss) a =
-    choice (nat_lt s.start limit) _ _ (λ v. is_any v a ≡ ((within s.start s.end a || is_any ss a) && nat_lt a limit))
+    cond_both (nat_lt s.start limit) _ _ (λ v. is_any v a ≡ ((within s.start s.end a || is_any ss a) && nat_lt a limit))
     (λ yes. ap (λ v. v || is_any (below limit ss) a) (cut_below s.start s.end limit a yes)
     ∙ (ap (λ v. (within s.start s.end a && nat_lt a limit) || v) (is_any-below limit ss a)
     ∙ or_and (within s.start s.end a) (is_any ss a) (nat_lt a limit)))
@@ -49,7 +33,7 @@ is_any-below limit (s ∷ ss) a =
 pub is_any-above : (limit : ℕ) (ss : List Span) (a : ℕ) → is_any (above limit ss) a ≡ (is_any ss a && nat_le limit a)
 is_any-above limit [] a = refl
 is_any-above limit (s ∷ ss) a =
-    choice (nat_lt limit s.end) _ _ (λ v. is_any v a ≡ ((within s.start s.end a || is_any ss a) && nat_le limit a))
+    cond_both (nat_lt limit s.end) _ _ (λ v. is_any v a ≡ ((within s.start s.end a || is_any ss a) && nat_le limit a))
     (λ yes. ap (λ v. v || is_any (above limit ss) a) (cut_above s.start s.end limit a yes)
     ∙ (ap (λ v. (within s.start s.end a && nat_le limit a) || v) (is_any-above limit ss a)
     ∙ or_and (within s.start s.end a) (is_any ss a) (nat_le limit a)))
@@ -93,7 +77,7 @@ rising_from m l (s ∷ ss) h r = (omega (arith, r.0), r.1, r.2)
 pub rising-above : (m l limit : ℕ) (ss : List Span) → m ≤ max l limit → IsRisingFrom l ss → IsRisingFrom m (above limit ss)
 rising-above m l limit [] h r = tt
 rising-above m l limit (s ∷ ss) h r =
-    choice (nat_lt limit s.end) _ _ (λ v. IsRisingFrom m v)
+    cond_both (nat_lt limit s.end) _ _ (λ v. IsRisingFrom m v)
     (λ yes. let e : limit < s.end = ltb-true _ _ yes in let p = r.0 in let q = r.1 in (omega arith, omega arith, rising-above s.end s.end limit ss (omega arith) r.2))
     (λ no. let p = r.0 in let q = r.1 in rising-above m s.end limit ss (omega arith) r.2)
 
@@ -101,7 +85,7 @@ rising-above m l limit (s ∷ ss) h r =
 pub below_then : (m l limit : ℕ) (ss rest : List Span) → m ≤ l → m ≤ limit → IsRisingFrom l ss → IsRisingFrom limit rest → IsRisingFrom m (below limit ss ++ rest)
 below_then m l limit [] rest h k r after = rising_from m limit rest k after
 below_then m l limit (s ∷ ss) rest h k r after =
-    choice (nat_lt s.start limit) _ _ (λ v. IsRisingFrom m (v ++ rest))
+    cond_both (nat_lt s.start limit) _ _ (λ v. IsRisingFrom m (v ++ rest))
     (λ yes. let e : s.start < limit = ltb-true _ _ yes in let p = r.0 in let q = r.1 in (omega arith, omega arith, below_then (min s.end limit) s.end limit ss rest (omega arith) (omega arith) r.2 after))
     (λ no. let p = r.0 in let q = r.1 in below_then m s.end limit ss rest (omega arith) k r.2 after)
 

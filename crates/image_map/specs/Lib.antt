@@ -1,9 +1,10 @@
-pub mod Ranges
+pub mod CallModel
 pub mod Memory
 pub mod Names
-pub mod Whole
 pub mod Queries
+pub mod Ranges
 pub mod Regions
-pub mod CallModel
-pub mod TotalOrders
+pub mod Shapes
 pub mod Texts
+pub mod TotalOrders
+pub mod Whole

@@ -1,11 +1,8 @@
 -- Spans of addresses. The project's own.
-use Rattle.std.specs.Prelude.{ℕ, ◌≤◌, ◌<◌, min, max, Bool, ◌&&◌, nat_le, nat_lt, if◌then◌else◌, Option, Some, None, List, [], ◌∷◌, ◌++◌}
+use Rattle.std.specs.Prelude.{ℕ, ◌≤◌, ◌<◌, min, max, Bool, nat_le, nat_lt, if◌then◌else◌, Option, Some, None, List, [], ◌∷◌, ◌++◌}
 use Rattle.std.specs.List.{list_any, prefix_len}
+use Rattle.item_list.specs.Ranges.{within}
 use Rattle.image_map.specs.declared.spans.Span.{Span}
-
--- an address from start up to, and without, end
-abbrev pub within : ℕ → ℕ → ℕ → Bool
-within start end a = nat_le start a && nat_lt a end
 
 -- an address that lies in one of the spans
 abbrev pub is_any : List Span → ℕ → Bool

@@ -1,6 +1,7 @@
 ghost use Rattle.std.specs.Prelude.{◌≡◌, ℕ, [], ◌∷◌, ◌++◌, ◌<◌, ◌≤◌, ◌+◌, if◌then◌else◌, nat_le, length, drop, slice_get, OnOk, OnErr, IfOk};
 ghost use Rattle.std.specs.Option.{option_to_list};
-ghost use Rattle.image_map.specs.Ranges.{within, is_any, IsRising, passed as passed_by, low_part, high_part, middle_part, replaced as spans_with};
+ghost use Rattle.item_list.specs.Ranges.{within};
+ghost use Rattle.image_map.specs.Ranges.{is_any, IsRising, passed as passed_by, low_part, high_part, middle_part, replaced as spans_with};
 
 use std::alloc::{AllocError, Global};
 use std::marker::Model;

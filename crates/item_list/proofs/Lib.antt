@@ -1,1 +1,4 @@
-pub mod OptionLemmas
+pub mod ListLaws
+pub mod OptionLaws
+pub mod RangeLaws
+pub mod TruthLaws

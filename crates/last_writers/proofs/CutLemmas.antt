@@ -1,19 +1,16 @@
 -- Where an address stands among spans that rise, and what cutting them there leaves.
-use Rattle.std.proofs.Common.{◌≡◌, ℕ, suc, zero, ◌+◌, ◌≤◌, ◌<◌, min, max, Bool, true, false, cond, nat_le, nat_lt, leb, Some, None, List, [], ◌∷◌, ◌++◌, length, take, drop, get_or, refl, ap, ◌∙◌, sym, subst, append_assoc, arith}
+use Rattle.std.proofs.Common.{◌≡◌, ℕ, suc, zero, ◌+◌, ◌≤◌, ◌<◌, min, max, Bool, true, false, cond, nat_le, nat_lt, leb, Some, None, List, [], ◌∷◌, ◌++◌, length, take, drop, get_or, refl, ap, ◌∙◌, sym, append_assoc, arith}
 use Rattle.std.specs.Prelude.{slice_get, Option}
 use Rattle.std.specs.List.Sorted.{IsNonDecreasingBy, IsPartitionPoint}
 use Rattle.std.specs.Option.{option_to_list}
 use Rattle.std.proofs.lemmas.Bool.{leb-true, leb-false}
 use Rattle.std.proofs.lemmas.Bool.Decides.{nat_tests}
 use Rattle.std.proofs.lemmas.List.Sums.{prefix_len_is}
+use Rattle.std.proofs.Math.Seq.{drop-nil}
+use Rattle.item_list.proofs.TruthLaws.{counted}
 use Rattle.last_writers.specs.declared.spans.Written.{Written}
 use Rattle.last_writers.specs.Writers.{IsRisingFrom, IsRising}
 use Rattle.last_writers.specs.Cuts.{below, above, passed, low_part, high_part, middle_part, replaced}
-
--- a fact of a count, from the fact of one more and of none
-pub counted : (b : Bool) (n : ℕ) (P : ℕ → Type 0) → (b ≡ true → P (suc n)) → (b ≡ false → P 0) → P (cond b (1 + n) 0)
-counted true n P here there = let e : suc n ≡ 1 + n = omega arith in subst P e (here refl)
-counted false n P here there = there refl
 
 -- each span that rises from a place ends above it
 ends_above : (low k : ℕ) (ws : List Written) (d : Written) → IsRisingFrom low ws → k < length ws → low ≤ (get_or ws k d).end
@@ -91,13 +88,9 @@ passed_more a b (w ∷ ws) le =
 pub point_is : (a i : ℕ) (ws : List Written) (d : Written) → i ≤ length ws → IsPartitionPoint (λ (w : Written). leb w.end a ≡ true) (λ w. leb w.end a ≡ false) ws i → i ≡ passed a ws
 point_is a i ws d le p = sym (prefix_len_is (λ (w : Written). leb w.end a) ws i d le (λ k lt. p.0 k d (omega arith) lt) (λ lt. p.1 i d (omega arith) lt))
 
-none_dropped : {A : Type 0} (n : ℕ) → drop {A = A} n [] ≡ []
-none_dropped zero = refl
-none_dropped (suc n) = refl
-
 -- the spans behind the last, and those behind none
 pub behind_none : (n : ℕ) (ws : List Written) → length ws ≤ n → drop n ws ≡ drop (n + 1) ws
-behind_none n [] le = none_dropped n ∙ sym (none_dropped (n + 1))
+behind_none n [] le = drop-nil n ∙ sym (drop-nil (n + 1))
 behind_none zero (w ∷ ws) le = absurd (omega arith)
 behind_none (suc n) (w ∷ ws) le =
     let more : suc n + 1 ≡ suc (n + 1) = omega arith in

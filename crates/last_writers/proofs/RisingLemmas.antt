@@ -1,30 +1,13 @@
 -- Who wrote an address last, once spans are cut and put together again.
-use Rattle.std.proofs.Common.{◌≡◌, ℕ, ◌≤◌, ◌<◌, min, max, Bool, true, false, ◌&&◌, not, cond, nat_le, nat_lt, if◌then◌else◌, Option, Some, None, List, [], ◌∷◌, ◌++◌, refl, ap, ◌∙◌, sym, subst, append_assoc, arith}
+use Rattle.std.proofs.Common.{◌≡◌, ℕ, ◌≤◌, ◌<◌, min, max, Bool, true, false, ◌&&◌, not, nat_le, nat_lt, if◌then◌else◌, Option, Some, None, List, [], ◌∷◌, ◌++◌, refl, ap, ◌∙◌, sym, subst, append_assoc, arith}
 use Rattle.std.specs.Option.{option_to_list}
-use Rattle.std.proofs.lemmas.Bool.{ltb-true, false≢true}
+use Rattle.std.proofs.lemmas.Bool.{ltb-true, false≢true, cond_both}
 use Rattle.std.proofs.lemmas.Bool.Decides.{nat_tests}
+use Rattle.item_list.proofs.RangeLaws.{cut_below, none_below, cut_above, none_above}
+use Rattle.item_list.specs.Ranges.{within}
 use Rattle.last_writers.specs.declared.spans.Written.{Written}
-use Rattle.last_writers.specs.Writers.{within, writer_at, IsRisingFrom, IsRising}
+use Rattle.last_writers.specs.Writers.{writer_at, IsRisingFrom, IsRising}
 use Rattle.last_writers.specs.Cuts.{below, above, middle_part, replaced}
-
--- a fact of a choice, from the fact of each side
-pub choice : {A : Type 0} (b : Bool) (x y : A) (P : A → Type 0) → (b ≡ true → P x) → (b ≡ false → P y) → P (cond b x y)
-choice true x y P here there = here refl
-choice false x y P here there = there refl
-
--- -- One span, cut
-
-cut_below : (low high limit a : ℕ) → nat_lt low limit ≡ true → within low (min high limit) a ≡ (within low high a && nat_lt a limit)
-cut_below low high limit a h = grind (arith, nat_tests)
-
-none_below : (low high limit a : ℕ) → nat_lt low limit ≡ false → (within low high a && nat_lt a limit) ≡ false
-none_below low high limit a h = grind (arith, nat_tests)
-
-cut_above : (low high limit a : ℕ) → nat_lt limit high ≡ true → within (max low limit) high a ≡ (within low high a && nat_le limit a)
-cut_above low high limit a h = grind (arith, nat_tests)
-
-none_above : (low high limit a : ℕ) → nat_lt limit high ≡ false → (within low high a && nat_le limit a) ≡ false
-none_above low high limit a h = grind (arith, nat_tests)
 
 -- -- The writer of an address
 
@@ -41,9 +24,9 @@ pick_none false true x y h = refl
 pick_none false false x y h = refl
 
 pub writer-below : (limit : ℕ) (ws : List Written) (a : ℕ) → writer_at (below limit ws) a ≡ (if nat_lt a limit then writer_at ws a else None)
-writer-below limit [] a = choice (nat_lt a limit) None None (λ v. None ≡ v) (λ yes. refl) (λ no. refl)
+writer-below limit [] a = cond_both (nat_lt a limit) None None (λ v. None ≡ v) (λ yes. refl) (λ no. refl)
 writer-below limit (w ∷ ws) a =
-    choice (nat_lt w.start limit) _ _ (λ v. writer_at v a ≡ (if nat_lt a limit then writer_at (w ∷ ws) a else None))
+    cond_both (nat_lt w.start limit) _ _ (λ v. writer_at v a ≡ (if nat_lt a limit then writer_at (w ∷ ws) a else None))
     (λ yes. ap (λ p. if p then Some w.step else writer_at (below limit ws) a) (cut_below w.start w.end limit a yes)
     ∙ (ap (λ v. if within w.start w.end a && nat_lt a limit then Some w.step else v) (writer-below limit ws a)
     ∙ pick (within w.start w.end a) (nat_lt a limit) (Some w.step) (writer_at ws a)))
@@ -51,9 +34,9 @@ writer-below limit (w ∷ ws) a =
     ∙ pick_none (within w.start w.end a) (nat_lt a limit) (Some w.step) (writer_at ws a) (none_below w.start w.end limit a no))
 
 pub writer-above : (limit : ℕ) (ws : List Written) (a : ℕ) → writer_at (above limit ws) a ≡ (if nat_le limit a then writer_at ws a else None)
-writer-above limit [] a = choice (nat_le limit a) None None (λ v. None ≡ v) (λ yes. refl) (λ no. refl)
+writer-above limit [] a = cond_both (nat_le limit a) None None (λ v. None ≡ v) (λ yes. refl) (λ no. refl)
 writer-above limit (w ∷ ws) a =
-    choice (nat_lt limit w.end) _ _ (λ v. writer_at v a ≡ (if nat_le limit a then writer_at (w ∷ ws) a else None))
+    cond_both (nat_lt limit w.end) _ _ (λ v. writer_at v a ≡ (if nat_le limit a then writer_at (w ∷ ws) a else None))
     (λ yes. ap (λ p. if p then Some w.step else writer_at (above limit ws) a) (cut_above w.start w.end limit a yes)
     ∙ (ap (λ v. if within w.start w.end a && nat_le limit a then Some w.step else v) (writer-above limit ws a)
     ∙ pick (within w.start w.end a) (nat_le limit a) (Some w.step) (writer_at ws a)))
@@ -117,7 +100,7 @@ rising_from m l (w ∷ ws) h r = (omega (arith, r.0), r.1, r.2)
 rising-above : (m l limit : ℕ) (ws : List Written) → m ≤ max l limit → IsRisingFrom l ws → IsRisingFrom m (above limit ws)
 rising-above m l limit [] h r = tt
 rising-above m l limit (w ∷ ws) h r =
-    choice (nat_lt limit w.end) _ _ (λ v. IsRisingFrom m v)
+    cond_both (nat_lt limit w.end) _ _ (λ v. IsRisingFrom m v)
     (λ yes. let e : limit < w.end = ltb-true _ _ yes in let p = r.0 in let q = r.1 in (omega arith, omega arith, rising-above w.end w.end limit ws (omega arith) r.2))
     (λ no. let p = r.0 in let q = r.1 in rising-above m w.end limit ws (omega arith) r.2)
 
@@ -125,7 +108,7 @@ rising-above m l limit (w ∷ ws) h r =
 below_then : (m l limit : ℕ) (ws rest : List Written) → m ≤ l → m ≤ limit → IsRisingFrom l ws → IsRisingFrom limit rest → IsRisingFrom m (below limit ws ++ rest)
 below_then m l limit [] rest h k r after = rising_from m limit rest k after
 below_then m l limit (w ∷ ws) rest h k r after =
-    choice (nat_lt w.start limit) _ _ (λ v. IsRisingFrom m (v ++ rest))
+    cond_both (nat_lt w.start limit) _ _ (λ v. IsRisingFrom m (v ++ rest))
     (λ yes. let e : w.start < limit = ltb-true _ _ yes in let p = r.0 in let q = r.1 in (omega arith, omega arith, below_then (min w.end limit) w.end limit ws rest (omega arith) (omega arith) r.2 after))
     (λ no. let p = r.0 in let q = r.1 in below_then m w.end limit ws rest (omega arith) k r.2 after)
 

@@ -5,7 +5,7 @@ use Rattle.std.specs.List.{dedup}
 use Rattle.std.specs.List.Retain.{IsFiltered, DiffersFromLast}
 use Rattle.std.specs.List.Sorted.{IsPermutation, IsSorted, IsStrictlyIncreasing}
 use Rattle.std.specs.Ordering.{nat_cmp}
-use Rattle.std.proofs.lemmas.Bool.{ltb-true, leb-true, leb-false}
+use Rattle.std.proofs.lemmas.Bool.{ltb-true, leb-true, leb-false, cond_both}
 use Rattle.std.proofs.lemmas.Bool.Decides.{nat_tests}
 use Rattle.std.proofs.lemmas.Option.{none-some, same_Some}
 use Rattle.std.proofs.lemmas.List.{drop_more, append-nil}
@@ -13,11 +13,11 @@ use Rattle.std.proofs.lemmas.List.Sorted.{Contains-permutation, IsPermutation-sy
 use Rattle.std.proofs.lemmas.List.Filters.{dedup_is}
 use Rattle.std.proofs.lemmas.List.Kept.{Contains-dedup_nat, Contains-from_dedup}
 use Rattle.std.proofs.lemmas.Map.Keys.{IsStrictlyIncreasing-dedup}
+use Rattle.item_list.proofs.TruthLaws.{counted}
+use Rattle.item_list.specs.Ranges.{within}
 use Rattle.last_writers.specs.declared.spans.Written.{Written}
-use Rattle.last_writers.specs.Writers.{within, writer_at, IsWriterIn, IsRisingFrom, IsRising}
+use Rattle.last_writers.specs.Writers.{writer_at, IsWriterIn, IsRisingFrom, IsRising}
 use Rattle.last_writers.specs.Cuts.{passed, steps_before}
-use Rattle.last_writers.proofs.CutLemmas.{counted}
-use Rattle.last_writers.proofs.RisingLemmas.{choice}
 
 -- a list has a number, by recursion
 abbrev Has : List ℕ → ℕ → Type 0
@@ -44,7 +44,7 @@ begun_forth : (end low : ℕ) (ws : List Written) (step : ℕ) → IsRisingFrom 
     → (a : ℕ) × (low ≤ a) × (a < end) × (writer_at ws a ≡ Some step)
 begun_forth end low [] step r has = absurd has
 begun_forth end low (w ∷ ws) step r has =
-    choice (nat_lt w.start end) (w.step ∷ steps_before end ws) [] (λ v. Has v step → (a : ℕ) × (low ≤ a) × (a < end) × (writer_at (w ∷ ws) a ≡ Some step))
+    cond_both (nat_lt w.start end) (w.step ∷ steps_before end ws) [] (λ v. Has v step → (a : ℕ) × (low ≤ a) × (a < end) × (writer_at (w ∷ ws) a ≡ Some step))
     (λ yes. λ h.
     let e : w.start < end = ltb-true _ _ yes in let p = r.0 in let q = r.1 in
     ⊎_elim
@@ -78,7 +78,7 @@ touched_forth start end low (w ∷ ws) step range r has =
     first : (start end low : ℕ) (w : Written) (ws : List Written) (step : ℕ) → start < end → IsRisingFrom low (w ∷ ws) → start < w.end
         → Has (steps_before end (w ∷ ws)) step → IsWriterIn (w ∷ ws) start end step
     first start end low w ws step range r ends has =
-        choice (nat_lt w.start end) (w.step ∷ steps_before end ws) [] (λ v. Has v step → IsWriterIn (w ∷ ws) start end step)
+        cond_both (nat_lt w.start end) (w.step ∷ steps_before end ws) [] (λ v. Has v step → IsWriterIn (w ∷ ws) start end step)
         (λ yes. λ h.
         let e : w.start < end = ltb-true _ _ yes in let q = r.1 in
         ⊎_elim
@@ -102,7 +102,7 @@ touched_forth start end low (w ∷ ws) step range r has =
 not_below : (low : ℕ) (ws : List Written) (a step : ℕ) → IsRisingFrom low ws → writer_at ws a ≡ Some step → low ≤ a
 not_below low [] a step r is = absurd (none-some _ is)
 not_below low (w ∷ ws) a step r is =
-    choice (within w.start w.end a) (Some w.step) (writer_at ws a) (λ v. v ≡ Some step → low ≤ a)
+    cond_both (within w.start w.end a) (Some w.step) (writer_at ws a) (λ v. v ≡ Some step → low ≤ a)
     (λ yes. λ e. let p = r.0 in grind (arith, nat_tests))
     (λ no. λ e. let p = r.0 in let q = r.1 in let h = not_below w.end ws a step r.2 e in omega (arith, p, q, h))
     is
@@ -110,7 +110,7 @@ not_below low (w ∷ ws) a step r is =
 begun_back : (end low : ℕ) (ws : List Written) (a step : ℕ) → IsRisingFrom low ws → a < end → writer_at ws a ≡ Some step → Has (steps_before end ws) step
 begun_back end low [] a step r under is = absurd (none-some _ is)
 begun_back end low (w ∷ ws) a step r under is =
-    choice (within w.start w.end a) (Some w.step) (writer_at ws a) (λ v. v ≡ Some step → Has (steps_before end (w ∷ ws)) step)
+    cond_both (within w.start w.end a) (Some w.step) (writer_at ws a) (λ v. v ≡ Some step → Has (steps_before end (w ∷ ws)) step)
     (λ yes. λ e.
     let begins : nat_lt w.start end ≡ true = grind (arith, nat_tests) in
     rw begins (inl (same_Some w.step step e)))

@@ -1,10 +1,7 @@
 -- Which step wrote what stands at an address last, told by spans of addresses that rise. The project's own.
-use Rattle.std.specs.Prelude.{◌≡◌, ℕ, ◌≤◌, ◌<◌, Bool, true, ◌&&◌, nat_le, nat_lt, if◌then◌else◌, Option, Some, None, List, [], ◌∷◌}
+use Rattle.std.specs.Prelude.{◌≡◌, ℕ, ◌≤◌, ◌<◌, true, if◌then◌else◌, Option, Some, None, List, [], ◌∷◌}
+use Rattle.item_list.specs.Ranges.{within}
 use Rattle.last_writers.specs.declared.spans.Written.{Written}
-
--- an address from start up to, and without, end
-abbrev pub within : ℕ → ℕ → ℕ → Bool
-within start end a = nat_le start a && nat_lt a end
 
 -- the step of the span in which an address lies
 abbrev pub writer_at : List Written → ℕ → Option ℕ

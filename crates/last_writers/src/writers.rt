@@ -2,7 +2,8 @@
 
 ghost use Rattle.std.specs.Prelude.{◌≡◌, ◌↔◌, ℕ, ◌<◌, if◌then◌else◌, None, Contains, OnOk, OnErr, IfOk};
 ghost use Rattle.std.specs.List.Sorted.{IsStrictlyIncreasing};
-ghost use Rattle.last_writers.specs.Writers.{within, writer_at, IsWriterIn};
+ghost use Rattle.item_list.specs.Ranges.{within};
+ghost use Rattle.last_writers.specs.Writers.{writer_at, IsWriterIn};
 
 use crate::spans::{Written, passed, replace, rest, steps_before};
 use std::alloc::{AllocError, Global};

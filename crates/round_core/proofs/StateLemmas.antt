@@ -6,6 +6,7 @@ use Rattle.std.specs.FinSet as sets
 use Rattle.std.specs.Ordering.{nat_cmp}
 use Rattle.std.proofs.lemmas.Bool.{true≢false, ltb-true, cond_both, and_parts, both_ways}
 use Rattle.std.proofs.lemmas.List.{length-replicate, get_or-replicate}
+use Rattle.std.proofs.lemmas.Option.{same_Some}
 use Rattle.round_core.specs.declared.word.Word.{Word}
 use Rattle.round_core.specs.declared.lane.Slot.{Slot}
 use Rattle.round_core.specs.declared.lane.Slot.TheVariants.{Empty, Filled}
@@ -61,16 +62,13 @@ came s e p i k a = at_lane (λ l. is_read_by (slot_at l k) a ≡ true → (reads
     ])
     (λ _ old. inl old)
 
-some_same : (k m : ℕ) → Some k ≡ Some m → k ≡ m
-some_same k m e = cc
-
 one_after : (s : List LaneState) (e : Event) (i j k m a : ℕ)
     → ((i j k m a : ℕ) → reads s i k a ≡ true → reads s j m a ≡ true → (i ≡ j) × (k ≡ m))
     → (reads s i k a ≡ true) ⊎ Newcomer s e i k a → (reads s j m a ≡ true) ⊎ Newcomer s e j m a → (i ≡ j) × (k ≡ m)
 one_after s e i j k m a one (inl x) (inl y) = one i j k m a x y
 one_after s e i j k m a one (inl x) (inr y) = absurd (both_ways _ (nothing_read s i k a y.entered.fresh) x)
 one_after s e i j k m a one (inr x) (inl y) = absurd (both_ways _ (nothing_read s j m a x.entered.fresh) y)
-one_after s e i j k m a one (inr x) (inr y) = (x.lane_is ∙ sym y.lane_is, some_same k m (sym x.entered.slot_is ∙ y.entered.slot_is))
+one_after s e i j k m a one (inr x) (inr y) = (x.lane_is ∙ sym y.lane_is, same_Some k m (sym x.entered.slot_is ∙ y.entered.slot_is))
 
 kept-change : (lanes seats : ℕ) (s : List LaneState) (e : Event) → Kept lanes seats s → Placed s e → Kept lanes seats (change s e)
 kept-change lanes seats s e h p = record {

@@ -1,17 +1,15 @@
 -- The machine of the 32-bit Intel architecture is as the argument asks of a machine.
-use Rattle.std.proofs.Common.{◌≡◌, ⊎_elim, ℕ, ◌+◌, ◌-◌, ◌<◌, ◌≤◌, List, [], ◌∷◌, ◌++◌, length, take, drop, refl, sym, ap, subst, ◌∙◌, arith, ltb, ltb-true, ltb-false, leb-true}
+use Rattle.std.proofs.Common.{◌≡◌, ⊎_elim, ℕ, ◌+◌, ◌-◌, ◌<◌, ◌≤◌, List, [], ◌∷◌, length, take, drop, refl, sym, ap, subst, ◌∙◌, arith, ltb, ltb-true, ltb-false, leb-true}
 use Rattle.std.specs.Prelude.{nat_le, nat_lt, Bool, true, false, if◌then◌else◌, Option, Some, None, is_some, slice_get}
-use Rattle.std.specs.Option.{option_map_or}
 use Rattle.std.proofs.Math.Seq.{take-nil}
-use Rattle.std.proofs.lemmas.Bool.{false≢true}
-use Rattle.std.proofs.lemmas.List.{take-append-drop, take-take}
+use Rattle.std.proofs.lemmas.Bool.{false≢true, cases_Bool, and_parts}
 use Rattle.std.proofs.lemmas.Option.{none-some, same_Some}
 use Rattle.ia32_types.specs.declared.Instr.{Instr}
 use Rattle.ia32_types.specs.declared.Op.{Op}
 use Rattle.ia32_types.specs.declared.Op.TheVariants as op
 use Rattle.ia32_types.specs.declared.Operand.{Operand}
-use Rattle.ia32_types.specs.Spells.{Spells, instruction, prefixed}
-use Rattle.ia32_types.proofs.SpellsLemmas.{one_spelling}
+use Rattle.ia32_types.specs.Spells.{Spells}
+use Rattle.ia32_types.proofs.SpellsLemmas.{one_spelling, not_empty}
 use Rattle.image_map.specs.declared.image.Image.{Image}
 use Rattle.image_map.specs.declared.image.Segment.{Segment}
 use Rattle.image_map.specs.declared.region.Kind.{Kind}
@@ -24,32 +22,28 @@ use Rattle.ia32_semantics.specs.Machine.{Occurrence}
 use Rattle.ia32_semantics.specs.Fetch.{begun_by, code_run, fetch_window, IsFetched}
 use Rattle.ia32_semantics.specs.Step.{Act, Executes, Answers, IsExternAt, IsActAt, operation_completes, act_completes, is_branch_operation, is_branch}
 use Rattle.ia32_semantics.specs.CallModel.{entry_activation}
+use Rattle.item_list.proofs.OptionLaws.{some_passes}
+use Rattle.item_list.proofs.ListLaws.{take_split}
 use Rattle.slice_soundness.specs.Laws.{ArchitectureMeetsLaws}
-use Rattle.slice_soundness.proofs.RunLemmas.{or_false}
-use Rattle.slice_soundness.proofs.DataLemmas.{both_of}
 
 -- -- One instruction is fetched at an address
-
--- a shorter beginning of some bytes begins a longer one
-take_split : (bytes : List ℕ) (m n : ℕ) → m ≤ n → take n bytes ≡ take m bytes ++ drop m (take n bytes)
-take_split bytes m n within = sym (take-append-drop m (take n bytes)) ∙ ap (λ front. front ++ drop m (take n bytes)) (take-take m n bytes within)
 
 within_other : (bytes : List ℕ) (at m n : ℕ) (i j : Instr) → m ≤ n → Spells (take m bytes) at i → Spells (take n bytes) at j → i ≡ j
 within_other bytes at m n i j within one two =
     (one_spelling (take m bytes) (drop m (take n bytes)) at i j one (subst (λ front. Spells front at j) (take_split bytes m n within) two)).1
 
-one_fetched : (image : Image) (a : ℕ) (i j : Instr) → IsFetched image a i → IsFetched image a j → i ≡ j
+pub one_fetched : (image : Image) (a : ℕ) (i j : Instr) → IsFetched image a i → IsFetched image a j → i ≡ j
 one_fetched image a i j one two =
     ⊎_elim
     (λ low. within_other (fetch_window image a) a one.count two.count i j (let below : one.count < two.count = ltb-true one.count two.count low in omega arith) one.spelled two.spelled)
     (λ high. sym (within_other (fetch_window image a) a two.count one.count j i (ltb-false one.count two.count high) two.spelled one.spelled))
-    (or_false (ltb one.count two.count))
+    (cases_Bool (ltb one.count two.count))
 
 -- -- No extern stands at code
 
 held_below : (s : Segment) (a : ℕ) → IsPlaced s → holds a s ≡ true → a < 0x7FFFFFFF
 held_below s a placed held =
-    let both = both_of (nat_le s.start a) (nat_lt (a - s.start) (length s.bytes)) held in
+    let both = and_parts (nat_le s.start a) (nat_lt (a - s.start) (length s.bytes)) held in
     let low = leb-true s.start a both.0 in
     let high = ltb-true (a - s.start) (length s.bytes) both.1 in
     let end = placed.high in
@@ -63,16 +57,8 @@ segments_below : (segments : List Segment) (a : ℕ) → ArePlaced segments → 
 segments_below [] a placed there = absurd (false≢true there)
 segments_below (s ∷ ss) a placed there = found_below s a (holds a s) (segment_at ss a) (held_below s a placed.0) (segments_below ss a placed.2) there
 
-some_has : (found : Option Segment) (test : Segment → Bool) → option_map_or test found false ≡ true → is_some found ≡ true
-some_has None test has = absurd (false≢true has)
-some_has (Some s) test has = refl
-
 code_below : (image : Image) (a : ℕ) → IsImage image → is_code image a ≡ true → a < 0x7FFFFFFF
-code_below image a is code = segments_below image.segments a is.segments (some_has (segment_at image.segments a) _ code)
-
-nothing_spelled : (at : ℕ) (i : Instr) → Spells [] at i → ⊥
-unfolding instruction prefixed
-nothing_spelled at i spelled = spelled.read
+code_below image a is code = segments_below image.segments a is.segments (some_passes (segment_at image.segments a) _ code)
 
 no_window : (image : Image) (a : ℕ) → is_code image a ≡ false → fetch_window image a ≡ []
 unfolding code_run
@@ -81,8 +67,8 @@ no_window image a data_there = ap (λ code. begun_by (if code then byte_at image
 fetched_code : (image : Image) (a : ℕ) (i : Instr) → IsFetched image a i → is_code image a ≡ true
 fetched_code image a i fetched =
     ⊎_elim (λ code. code)
-    (λ other. absurd (nothing_spelled a i (subst (λ bytes. Spells bytes a i) (ap (take fetched.count) (no_window image a other) ∙ take-nil fetched.count) fetched.spelled)))
-    (or_false (is_code image a))
+    (λ other. absurd (not_empty a i (subst (λ bytes. Spells bytes a i) (ap (take fetched.count) (no_window image a other) ∙ take-nil fetched.count) fetched.spelled)))
+    (cases_Bool (is_code image a))
 
 not_none : (low : Bool) (rest : Option ℕ) (n : ℕ) → (if low then None else rest) ≡ Some n → low ≡ false
 not_none true rest n is = absurd (none-some n is)

@@ -1,6 +1,7 @@
 -- What is read was last written at a node from which an edge comes.
 use Rattle.std.proofs.Common.{◌≡◌, ⊎_elim, ℕ, zero, suc, ◌+◌, ◌-◌, ◌<◌, ◌≤◌, List, refl, sym, ap, subst, ◌∙◌, arith, IsTrue, eq-eqb}
 use Rattle.std.specs.Prelude.{◌≢◌, ◌&&◌, ◌==◌, not, nat_lt, Bool, true, false, Some, slice_get}
+use Rattle.std.proofs.lemmas.Bool.{cases_Bool, and_parts}
 use Rattle.flow_graph.specs.FlowGraph.{MayDefine, MustDefine, esp_place}
 use Rattle.ia32_semantics.specs.State.{State, Location, InRegister, InFlag, AtByte, is_location, esp}
 use Rattle.ia32_semantics.specs.Machine.{Machine}
@@ -10,14 +11,10 @@ use Rattle.slice_soundness.specs.Maps.{Map, number_of, IsPlaceOf}
 use Rattle.slice_soundness.specs.Premises.{GoesOn, IsGraphOf, IsLocation, Covers, Follows}
 use Rattle.slice_soundness.specs.Arrows.{EdgeTo}
 use Rattle.slice_soundness.specs.Laws.{between, numbers_of, DataHasEdges}
-use Rattle.slice_soundness.proofs.RunLemmas.{or_false, not_both, occurrence_at, neighbours, comes_at, goes_on_at}
+use Rattle.slice_soundness.proofs.RunLemmas.{not_both, occurrence_at, neighbours, comes_at, goes_on_at}
 use Rattle.slice_soundness.proofs.WalkLemmas.{runs_walk, all_between}
 
 -- -- Locations and places
-
-pub both_of : (a b : Bool) → IsTrue (a && b) → IsTrue a × IsTrue b
-both_of true b h = (refl, h)
-both_of false b h = absurd (not_both false h refl)
 
 pub both_are : (a b : Bool) → IsTrue a → IsTrue b → IsTrue (a && b)
 both_are true b one two = two
@@ -25,12 +22,12 @@ both_are false b one two = one
 
 -- what is a location without ESP is one
 pub any_location : (skip_sp : Bool) (l : Location) → IsTrue (is_location skip_sp l) → IsLocation l
-any_location skip_sp (InRegister n) is = both_are (nat_lt n 8) true (both_of (nat_lt n 8) _ is).0 refl
+any_location skip_sp (InRegister n) is = both_are (nat_lt n 8) true (and_parts (nat_lt n 8) _ is).0 refl
 any_location skip_sp (InFlag n) is = is
 any_location skip_sp (AtByte a) is = refl
 
 is_false : (b : Bool) → ¬ IsTrue b → b ≡ false
-is_false b no_way = ⊎_elim (λ is. absurd (no_way is)) (λ not. not) (or_false b)
+is_false b no_way = ⊎_elim (λ is. absurd (no_way is)) (λ not. not) (cases_Bool b)
 
 module _ (m : Machine) (v : Map) (c : Covers m v) where
   -- without ESP no location has ESP's place
@@ -38,7 +35,7 @@ module _ (m : Machine) (v : Map) (c : Covers m v) where
   other_than_esp skip_sp s (InRegister n) place is same skip sp =
       let is_esp : n ≡ esp = sym same ∙ sp in
       let out : IsTrue (skip_sp && n == esp) = both_are skip_sp (n == esp) skip (eq-eqb n esp is_esp) in
-      not_both _ (both_of (nat_lt n 8) _ is).1 (ap not out)
+      not_both _ (and_parts (nat_lt n 8) _ is).1 (ap not out)
   other_than_esp skip_sp s (InFlag n) place is same skip sp = omega arith
   other_than_esp skip_sp s (AtByte a) place is has skip sp = let far : 14 ≤ place = c.cells s a place has in omega arith
 
@@ -50,7 +47,7 @@ module _ (m : Machine) (v : Map) (c : Covers m v) where
 
 module _ (m : Machine) (v : Map) (f : Follows m v) (g : IsGraphOf m v) (c : Covers m v) (run : List (OccurrenceOf m)) (is : IsRun m run) (skip_sp : Bool) (l : Location) (j i : ℕ) (d : DataDependence m skip_sp run l j i) where
   location : IsTrue (is_location skip_sp l)
-  location = (both_of (is_location skip_sp l) _ d.reads).0
+  location = (and_parts (is_location skip_sp l) _ d.reads).0
 
   writer_goes_on : GoesOn m v d.writer
   writer_goes_on = goes_on_at m v f run is i j d.writer d.reader d.earlier d.writer_is d.reader_is
@@ -59,7 +56,7 @@ module _ (m : Machine) (v : Map) (f : Follows m v) (g : IsGraphOf m v) (c : Cove
   defined : (place : ℕ) × IsPlaceOf v d.writer.after l place × MayDefine v.graph place (number_of v d.writer.before)
   defined =
       c.defined d.writer l writer_goes_on (any_location skip_sp l location)
-      ((both_of (is_location skip_sp l) _ d.writes).1) (is_false (m.forgets d.writer l) d.kept)
+      ((and_parts (is_location skip_sp l) _ d.writes).1) (is_false (m.forgets d.writer l) d.kept)
 
   -- what comes between doesn't write or forget it
   between_goes_on : (k : ℕ) (o : OccurrenceOf m) → k < j → slice_get run k ≡ Some o → GoesOn m v o
@@ -107,7 +104,7 @@ module _ (m : Machine) (v : Map) (f : Follows m v) (g : IsGraphOf m v) (c : Cove
         other_than_esp m v c skip_sp d.writer.after l defined.0 location defined.1,
         record {
           defines = defined.2;
-          uses = c.used d.reader l defined.0 comes (any_location skip_sp l location) ((both_of (is_location skip_sp l) _ d.reads).1) kept_here;
+          uses = c.used d.reader l defined.0 comes (any_location skip_sp l location) ((and_parts (is_location skip_sp l) _ d.reads).1) kept_here;
           inner = numbers_of m v (between run i j);
           walk = runs_walk m v f g run is i j d.writer d.reader d.earlier d.writer_is d.reader_is;
           kept = all_between m v f g (λ node. ¬ MustDefine v.graph defined.0 node) run i j d.reader d.earlier d.reader_is undefined;

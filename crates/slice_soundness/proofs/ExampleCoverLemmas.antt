@@ -1,10 +1,10 @@
 -- The premises on places hold of the example: its bytes lie in frames, its graph's sets are those of its accesses, and calls and
 -- returns take and give up the stack.
 use Rattle.std.proofs.Common.{◌≡◌, ◌⊎◌, inl, inr, ⊎_elim, ℕ, zero, suc, ◌+◌, ◌-◌, ◌<◌, ◌≤◌, List, [], ◌∷◌, ◌++◌, length, refl, sym, ap, subst, ◌∙◌, arith, eqb-true, eq-eqb, leb-true, le-leb, ltb-true, lt-ltb, ltb-false}
-use Rattle.std.specs.Prelude.{◌↔◌, ◌==◌, ◌||◌, ◌^◌, nat_le, nat_lt, if◌then◌else◌, ℤ, pos, negsuc, ◌-ℤ◌, Bool, true, false, Option, Some, None, Contains, find}
+use Rattle.std.specs.Prelude.{◌↔◌, ◌==◌, ◌^◌, nat_le, nat_lt, if◌then◌else◌, ℤ, pos, negsuc, ◌-ℤ◌, Bool, true, false, Option, Some, None, Contains, find}
 use Rattle.std.specs.Option.{option_map}
 use Rattle.std.proofs.lemmas.Option.{none-some, same_Some}
-use Rattle.std.proofs.lemmas.Bool.{false≢true}
+use Rattle.std.proofs.lemmas.Bool.{false≢true, cases_Bool, or_right, or_left, or_cases, le-ltb, and_parts}
 use Rattle.std.proofs.lemmas.Int.{ints}
 use Rattle.std.proofs.lemmas.List.{append-nil}
 use Rattle.image_map.specs.declared.region.Activation.{Activation}
@@ -22,30 +22,23 @@ use Rattle.slice_soundness.specs.Premises.{Comes, Covers, KeepsSlots, SlotsAreKe
 use Rattle.slice_soundness.specs.Tables.{value_in, number_in}
 use Rattle.slice_soundness.specs.Located.{Spot, owner_of, is_in_allocation, frame_spot, block_spot, global_spot, spot_by, spot_of, IsDivision, Part, OfCore, OfRegion, IsPartAt, IsThere, HasPlace, HasSets, AccessLaws, Takes, GivesUp, IsLocated}
 use Rattle.slice_soundness.specs.Example.{Act, calls, stops, stores, chooses, loads, returns, address_of, entry_base, inner_base, stored_at, entry_activation, inner_activation, all_but_newest, done, is_register, is_flag, is_byte, is_in_word, reads_of, writes_of, forgets_of, machine, Known, outside, inside, activations_of, esp_of, node_in, rows, callee_cell, entry_cell, cell_of, division, IsSlotByte, IsStoredByte, ReadsPart, WritesPart, accesses, uses_at, defines_at, flow, same_known, example}
-use Rattle.slice_soundness.proofs.DataLemmas.{both_of, both_are}
-use Rattle.slice_soundness.proofs.RunLemmas.{or_false, not_both}
+use Rattle.slice_soundness.proofs.DataLemmas.{both_are}
+use Rattle.slice_soundness.proofs.RunLemmas.{not_both}
 use Rattle.slice_soundness.proofs.TableLemmas.{row_in}
 use Rattle.slice_soundness.proofs.LocatedLemmas.{places_are_covered}
 use Rattle.slice_soundness.proofs.ExampleLemmas.{act_at, act_is, known_at, Placed, placed, after_is, slot_after}
+use Rattle.slice_soundness.proofs.ReturnLemmas.{same_first}
 
 -- -- Tests
 
-either : (a b : Bool) → (a || b) ≡ true → (a ≡ true) ⊎ (b ≡ true)
-either true b is = inl refl
-either false b is = inr is
-
-neither : (a b : Bool) → (a || b) ≡ false → (a ≡ false) × (b ≡ false)
-neither true b is = absurd (false≢true (sym is))
-neither false b is = (refl, is)
-
 -- the ends of a word
 word_of : (low a : ℕ) → is_in_word low a ≡ true → (low ≤ a) × (a < low + 4)
-word_of low a is = let both = both_of (nat_le low a) (nat_lt a (low + 4)) is in (leb-true low a both.0, ltb-true a (low + 4) both.1)
+word_of low a is = let both = and_parts (nat_le low a) (nat_lt a (low + 4)) is in (leb-true low a both.0, ltb-true a (low + 4) both.1)
 
 -- -- Cells
 
 by_word : {P : Type 0} (low a : ℕ) → (is_in_word low a ≡ true → P) → (is_in_word low a ≡ false → P) → P
-by_word low a in_it out = ⊎_elim in_it out (or_false (is_in_word low a))
+by_word low a in_it out = ⊎_elim in_it out (cases_Bool (is_in_word low a))
 
 -- -- What an act leaves
 
@@ -69,25 +62,17 @@ activations_done returns s same = ap all_but_newest same
 activations_after : (act : Act) (o : OccurrenceOf machine) → o.act ≡ act → Comes machine example o → o.after.activations ≡ activations_of (known_after act)
 activations_after act o is comes = ap (λ s. s.activations) (after_is act o is comes) ∙ activations_done act o.before (placed act o is comes).activations
 
-in_one : (x p : ℕ) → Contains (x ∷ []) p → p ≡ x
+pub in_one : (x p : ℕ) → Contains (x ∷ []) p → p ≡ x
 in_one x p (zero, within, is) = sym is
 in_one x p (suc k, within, is) = absurd (omega arith)
 
-in_two : (x y p : ℕ) → Contains (x ∷ y ∷ []) p → (p ≡ x) ⊎ (p ≡ y)
+pub in_two : (x y p : ℕ) → Contains (x ∷ y ∷ []) p → (p ≡ x) ⊎ (p ≡ y)
 in_two x y p (zero, within, is) = inl (sym is)
 in_two x y p (suc zero, within, is) = inr (sym is)
 in_two x y p (suc (suc k), within, is) = absurd (omega arith)
 
 in_none : (p : ℕ) → Contains [] p → ⊥
 in_none p has = omega (arith, has.1)
-
-or_left : (a b : Bool) → a ≡ true → (a || b) ≡ true
-or_left true b is = refl
-or_left false b is = absurd (false≢true is)
-
-or_right : (a b : Bool) → b ≡ true → (a || b) ≡ true
-or_right true b is = refl
-or_right false b is = is
 
 -- -- The graph's nodes
 
@@ -114,15 +99,12 @@ key_of x = 0
 in_stack : (a : ℕ) → stored_at ≤ a → a < entry_base + 4 → is_in_stack entry_base a ≡ true
 in_stack a low high = both_are (nat_le (entry_base - 2 ^ 20) a) (nat_lt a (entry_base + 2 ^ 16)) (le-leb (entry_base - 2 ^ 20) a (omega arith)) (lt-ltb a (entry_base + 2 ^ 16) (omega arith))
 
-not_below : (a b : ℕ) → b ≤ a → nat_lt a b ≡ false
-not_below a b above = ⊎_elim (λ is. absurd (let below : a < b = ltb-true a b is in omega arith)) (λ out. out) (or_false (nat_lt a b))
-
 -- a byte of the callee's frame lies there
 callee_spot : (s : State) (a : ℕ) → s.activations ≡ activations_of inside → s.slot ≡ entry_base → stored_at ≤ a → a < inner_base + 4 → spot_of division.key s a ≡ Some (frame_spot inner_activation)
 unfolding owner_of
 callee_spot s a same slot low high =
     (λ i. spot_by (nat_lt a (2 ^ 31)) (is_in_stack (slot i) a) (option_map frame_spot (owner_of (same i) a)) (option_map (block_spot division.key) (find (is_in_allocation a) s.allocs)))
-    ∙ ap (λ b. spot_by b (is_in_stack entry_base a) (option_map frame_spot (owner_of (activations_of inside) a)) (option_map (block_spot division.key) (find (is_in_allocation a) s.allocs))) (not_below a (2 ^ 31) (omega arith))
+    ∙ ap (λ b. spot_by b (is_in_stack entry_base a) (option_map frame_spot (owner_of (activations_of inside) a)) (option_map (block_spot division.key) (find (is_in_allocation a) s.allocs))) (le-ltb a (2 ^ 31) (omega arith))
     ∙ ap (λ b. spot_by false b (option_map frame_spot (owner_of (activations_of inside) a)) (option_map (block_spot division.key) (find (is_in_allocation a) s.allocs))) (in_stack a low (omega arith))
     ∙ ap (λ b. option_map frame_spot (if b then Some inner_activation else Some entry_activation)) (lt-ltb a (inner_base + 4) high)
 
@@ -228,10 +210,10 @@ part_stored s (AtByte a) part same at byte =
 reads_are : (act : Act) (s : State) (l : Location) (part : Part) → Placed act s → s.slot ≡ entry_base → reads_of act (esp_of (known_at act)) l ≡ true → IsPartAt division s l part → ReadsPart act part
 reads_are calls s l part p slot is at = register_part 4 s l part is at
 reads_are stops s l part p slot is at = register_part 0 s l part is at
-reads_are stores s l part p slot is at = ⊎_elim (λ one. inl (register_part 1 s l part one at)) (λ other. inr (register_part 4 s l part other at)) (either (is_register 1 l) _ is)
+reads_are stores s l part p slot is at = ⊎_elim (λ one. inl (register_part 1 s l part one at)) (λ other. inr (register_part 4 s l part other at)) (or_cases (is_register 1 l) _ is)
 reads_are chooses s l part p slot is at = flag_part 2 s l part is at
-reads_are loads s l part p slot is at = ⊎_elim (λ one. inl (register_part 4 s l part one at)) (λ other. inr (stored_part s l part p.activations slot other at)) (either (is_register 4 l) _ is)
-reads_are returns s l part p slot is at = ⊎_elim (λ one. inl (register_part 4 s l part one at)) (λ other. inr (slot_part s l part p.activations slot other at)) (either (is_register 4 l) _ is)
+reads_are loads s l part p slot is at = ⊎_elim (λ one. inl (register_part 4 s l part one at)) (λ other. inr (stored_part s l part p.activations slot other at)) (or_cases (is_register 4 l) _ is)
+reads_are returns s l part p slot is at = ⊎_elim (λ one. inl (register_part 4 s l part one at)) (λ other. inr (slot_part s l part p.activations slot other at)) (or_cases (is_register 4 l) _ is)
 
 -- what a location with a place has as a part
 Found : Act → State → Location → Type 0
@@ -281,7 +263,7 @@ stored_found act s (AtByte a) same slot is writes =
 writes_are : (act : Act) (s : State) (l : Location) → s.activations ≡ activations_of (known_after act) → s.slot ≡ entry_base → writes_of act (esp_of (known_at act)) l ≡ true → Found act s l
 unfolding known_after
 writes_are calls s l same slot is =
-    ⊎_elim (λ one. register_found calls s l 4 (omega arith) one (inl refl)) (λ other. slot_found calls s l same slot other (λ k small. inr (k, small, refl))) (either (is_register 4 l) _ is)
+    ⊎_elim (λ one. register_found calls s l 4 (omega arith) one (inl refl)) (λ other. slot_found calls s l same slot other (λ k small. inr (k, small, refl))) (or_cases (is_register 4 l) _ is)
 writes_are stops s l same slot is = absurd (false≢true is)
 writes_are stores s l same slot is = stored_found stores s l same slot is refl
 writes_are chooses s l same slot is = absurd (false≢true is)
@@ -501,7 +483,7 @@ below_of a low out =
     (λ high.
     let above : inner_base ≤ a = ltb-false a inner_base high in
     absurd (not_both (is_in_word inner_base a) (both_are (nat_le inner_base a) (nat_lt a (inner_base + 4)) (le-leb inner_base a above) (lt-ltb a (inner_base + 4) low)) out))
-    (or_false (nat_lt a inner_base))
+    (cases_Bool (nat_lt a inner_base))
 
 Moves : OccurrenceOf machine → Type 0
 Moves o = (o.after.activations ≡ o.before.activations) ⊎ (Takes machine o ⊎ GivesUp machine o)
@@ -556,17 +538,13 @@ tail_of : List Activation → List Activation
 tail_of [] = []
 tail_of (x ∷ xs) = xs
 
-head_of : Activation → List Activation → Activation
-head_of d [] = d
-head_of d (x ∷ xs) = x
-
 nothing_split : (newer older : List Activation) (live : Activation) → [] ≡ newer ++ live ∷ older → ⊥
 nothing_split [] older live same = let e : 0 ≡ suc (length older) = ap {A = List Activation} {B = ℕ} length same in omega (arith, e)
 nothing_split (x ∷ newer) older live same = let e : 0 ≡ suc (length (newer ++ live ∷ older)) = ap {A = List Activation} {B = ℕ} length same in omega (arith, e)
 
 one_split : (x : Activation) (newer older : List Activation) (live : Activation) → x ∷ [] ≡ newer ++ live ∷ older → live ≡ x
-unfolding tail_of head_of
-one_split x [] older live same = sym (ap (head_of x) same)
+unfolding tail_of
+one_split x [] older live same = sym (same_first x live [] older same)
 one_split x (y ∷ newer) older live same = absurd (nothing_split newer older live (ap tail_of same))
 
 pub record IsNewest (x y : Activation) (newer older : List Activation) (live : Activation) : Type 0 where
@@ -575,8 +553,8 @@ pub record IsNewest (x y : Activation) (newer older : List Activation) (live : A
   pub others : older ≡ y ∷ []
 
 two_split : (x y : Activation) (newer older : List Activation) (live : Activation) → x ∷ y ∷ [] ≡ newer ++ live ∷ older → IsNewest x y newer older live ⊎ (live ≡ y)
-unfolding tail_of head_of
-two_split x y [] older live same = inl (record { none_newer = refl; is = sym (ap (head_of x) same); others = sym (ap tail_of same) })
+unfolding tail_of
+two_split x y [] older live same = inl (record { none_newer = refl; is = sym (same_first x live (y ∷ []) older same); others = sym (ap tail_of same) })
 two_split x y (z ∷ newer) older live same = inr (one_split y newer older live (ap tail_of same))
 
 -- where the live slots lie
@@ -592,7 +570,7 @@ not_in_word : (low a : ℕ) → low + 4 ≤ a → is_in_word low a ≡ false
 not_in_word low a above = by_word low a (λ is. absurd (let ends = word_of low a is in omega (arith, ends.1))) (λ out. out)
 
 not_byte : (a : ℕ) → inner_base ≤ a → (a == stored_at) ≡ false
-not_byte a above = ⊎_elim (λ is. absurd (let e : a ≡ stored_at = eqb-true a stored_at is in omega arith)) (λ out. out) (or_false (a == stored_at))
+not_byte a above = ⊎_elim (λ is. absurd (let e : a ≡ stored_at = eqb-true a stored_at is in omega arith)) (λ out. out) (cases_Bool (a == stored_at))
 
 -- a slot lies above what is written and forgotten
 above_slot : (known : Known) (newer older : List Activation) (live : Activation) (k : ℕ) → Slot known newer older live → inner_base ≤ live.base + k

@@ -2,7 +2,7 @@
 use Rattle.std.proofs.Common.{◌≡◌, ◌⊎◌, inl, inr, ⊎_elim, ℕ, zero, suc, ◌<◌, ◌≤◌, List, [], ◌∷◌, map, refl, sym, ap, subst, ◌∙◌, arith, eq-eqb}
 use Rattle.std.specs.Prelude.{◌≢◌, ◌==◌, true, false, Some, Contains, slice_get}
 use Rattle.std.proofs.lemmas.Option.{none-some, same_Some}
-use Rattle.std.proofs.lemmas.Bool.{false≢true}
+use Rattle.std.proofs.lemmas.Bool.{false≢true, and_parts}
 use Rattle.flow_graph.specs.FlowGraph.{IsAt, IsBranch, MayUse, MayDefine}
 use Rattle.flow_graph.specs.Marked.Marked.{seed, step}
 use Rattle.ia32_semantics.specs.State.{State, Location, InRegister, AtByte, is_location}
@@ -13,11 +13,10 @@ use Rattle.slice_soundness.specs.Premises.{IsClean, Describes}
 use Rattle.slice_soundness.specs.Tables.{value_in, number_in, IsKept, IsFlow}
 use Rattle.slice_soundness.specs.Arrows.{Arrow, InSlice, ListsSlice}
 use Rattle.slice_soundness.specs.Example.{Act, calls, stops, stores, chooses, loads, returns, address_of, done, is_last, is_branch, machine, Known, outside, inside, same_known, rows, successors_at, uses_at, defines_at, example, table, start, made, run, other_run, listed, stored_at, HasDependences}
-use Rattle.slice_soundness.proofs.DataLemmas.{both_of}
 use Rattle.slice_soundness.proofs.TableLemmas.{tables_are_clean, tables_have_graphs}
 use Rattle.slice_soundness.proofs.ArrowLemmas.{slices_list_dependences}
 use Rattle.slice_soundness.proofs.ExampleLemmas.{machine_laws, abstract_steps}
-use Rattle.slice_soundness.proofs.ExampleCoverLemmas.{covers}
+use Rattle.slice_soundness.proofs.ExampleCoverLemmas.{covers, in_one, in_two}
 
 -- -- The table
 
@@ -99,35 +98,26 @@ criterion_is (suc (suc (suc (suc zero)))) is = absurd (let e : 22 ≡ 11 = is in
 criterion_is (suc (suc (suc (suc (suc zero))))) is = absurd (let e : 23 ≡ 11 = is in omega (arith, e))
 criterion_is (suc (suc (suc (suc (suc (suc n)))))) is = absurd is
 
-one_of : (x p : ℕ) → Contains (x ∷ []) p → p ≡ x
-one_of x p (zero, within, is) = sym is
-one_of x p (suc k, within, is) = absurd (omega arith)
-
-one_of_two : (x y p : ℕ) → Contains (x ∷ y ∷ []) p → (p ≡ x) ⊎ (p ≡ y)
-one_of_two x y p (zero, within, is) = inl (sym is)
-one_of_two x y p (suc zero, within, is) = inr (sym is)
-one_of_two x y p (suc (suc k), within, is) = absurd (omega arith)
-
 -- of these nodes none uses the callee's return slot
 slot_unused : (n place : ℕ) → 1 ≤ n → n ≤ 4 → place ≡ 16 → MayUse example.graph place n → ⊥
 unfolding rows uses_at
 slot_unused zero place low high slot uses = omega arith
-slot_unused (suc zero) place low high slot uses = let e = one_of 0 place uses in omega arith
-slot_unused (suc (suc zero)) place low high slot uses = ⊎_elim (λ e. let f : place ≡ 1 = e in omega arith) (λ e. let f : place ≡ 4 = e in omega arith) (one_of_two 1 4 place uses)
-slot_unused (suc (suc (suc zero))) place low high slot uses = let e = one_of 10 place uses in omega arith
-slot_unused (suc (suc (suc (suc zero)))) place low high slot uses = ⊎_elim (λ e. let f : place ≡ 4 = e in omega arith) (λ e. let f : place ≡ 15 = e in omega arith) (one_of_two 4 15 place uses)
+slot_unused (suc zero) place low high slot uses = let e = in_one 0 place uses in omega arith
+slot_unused (suc (suc zero)) place low high slot uses = ⊎_elim (λ e. let f : place ≡ 1 = e in omega arith) (λ e. let f : place ≡ 4 = e in omega arith) (in_two 1 4 place uses)
+slot_unused (suc (suc (suc zero))) place low high slot uses = let e = in_one 10 place uses in omega arith
+slot_unused (suc (suc (suc (suc zero)))) place low high slot uses = ⊎_elim (λ e. let f : place ≡ 4 = e in omega arith) (λ e. let f : place ≡ 15 = e in omega arith) (in_two 4 15 place uses)
 slot_unused (suc (suc (suc (suc (suc n))))) place low high slot uses = omega arith
 
 -- an edge to one of these nodes comes from one of them, where ESP is left out
 edge_from : (m n place : ℕ) → 1 ≤ n → n ≤ 4 → place ≢ 4 → MayDefine example.graph place m → MayUse example.graph place n → (1 ≤ m) × (m ≤ 4)
 unfolding rows defines_at
 edge_from zero n place low high other define uses =
-    ⊎_elim (λ esp. absurd (other esp)) (λ slot. absurd (slot_unused n place low high slot uses)) (one_of_two 4 16 place define)
+    ⊎_elim (λ esp. absurd (other esp)) (λ slot. absurd (slot_unused n place low high slot uses)) (in_two 4 16 place define)
 edge_from (suc zero) n place low high other define uses = (omega arith, omega arith)
 edge_from (suc (suc zero)) n place low high other define uses = (omega arith, omega arith)
 edge_from (suc (suc (suc zero))) n place low high other define uses = (omega arith, omega arith)
 edge_from (suc (suc (suc (suc zero)))) n place low high other define uses = (omega arith, omega arith)
-edge_from (suc (suc (suc (suc (suc zero))))) n place low high other define uses = absurd (other (one_of 4 place define))
+edge_from (suc (suc (suc (suc (suc zero))))) n place low high other define uses = absurd (other (in_one 4 place define))
 edge_from (suc (suc (suc (suc (suc (suc m)))))) n place low high other define uses = absurd define
 
 branch_from : (m : ℕ) → IsBranch example.graph m → (1 ≤ m) × (m ≤ 4)
@@ -217,7 +207,7 @@ other_is_run = record { start = start true; starts = record { at = refl; activat
 left_alone : (l : Location) (o p : Occurrence Act) → machine.writes p l ≡ false → machine.forgets p l ≡ false → Some p ≡ Some o → (¬ Writes machine true o l) × (¬ Forgets machine o l)
 left_alone l o p unwritten unforgotten is =
     subst (λ q. (¬ Writes machine true q l) × (¬ Forgets machine q l)) (same_Some p o is)
-    ((λ writes. false≢true (sym unwritten ∙ (both_of (is_location true l) _ writes).1)), (λ forgets. false≢true (sym unforgotten ∙ forgets)))
+    ((λ writes. false≢true (sym unwritten ∙ (and_parts (is_location true l) _ writes).1)), (λ forgets. false≢true (sym unforgotten ∙ forgets)))
 
 -- the states of the run
 s2 : State

@@ -3,6 +3,7 @@ use Rattle.std.proofs.Common.{arith, ◌<◌, ◌≡◌, ⊎_elim, ℕ, ◌+◌,
 use Rattle.std.specs.Prelude.{pos, ◌-ℤ◌, ◌^◌, nat_lt, Bool, true, false, if◌then◌else◌, find, Option, Some, None}
 use Rattle.std.specs.Option.{option_map}
 use Rattle.std.proofs.lemmas.Option.{none-some}
+use Rattle.std.proofs.lemmas.Bool.{cases_Bool, and_parts}
 use Rattle.image_map.specs.declared.region.Activation.{Activation}
 use Rattle.ia32_semantics.specs.declared.state.Allocation.{Allocation}
 use Rattle.ia32_semantics.specs.State.{State, Location, InRegister, InFlag, AtByte}
@@ -10,12 +11,12 @@ use Rattle.ia32_semantics.specs.Outcome.{is_in_stack}
 use Rattle.ia32_semantics.specs.Machine.{Machine}
 use Rattle.ia32_semantics.specs.Runs.{OccurrenceOf}
 use Rattle.call_strings.specs.declared.context.Node.{Node}
+use Rattle.item_list.proofs.ListLaws.{found_first}
 use Rattle.slice_soundness.specs.Nodes.{running, node_at, IsRooted}
 use Rattle.slice_soundness.specs.Maps.{Map, IsNode, here, AreHome, IsPlaceOf}
 use Rattle.slice_soundness.specs.Premises.{IsReady, GoesOn, Covers, IsLocation}
 use Rattle.slice_soundness.specs.Located.{Spot, owner_of, is_in_allocation, frame_spot, block_spot, spot_by, spot_of, Division, Part, OfCore, OfRegion, Accesses, IsPartAt, IsThere, HasPlace, MovesBytes, IsLocated}
-use Rattle.slice_soundness.proofs.DataLemmas.{both_of}
-use Rattle.slice_soundness.proofs.RunLemmas.{or_false, not_both}
+use Rattle.slice_soundness.proofs.RunLemmas.{not_both}
 
 -- -- Owners
 
@@ -32,11 +33,6 @@ find_by : {A : Type 0} (test : A → Bool) (b : Bool) (y : A) (ys more : List A)
     → (if b then Some y else find test ys) ≡ Some x → (if b then Some y else find test (ys ++ more)) ≡ Some x
 find_by test true y ys more x rest found = found
 find_by test false y ys more x rest found = rest found
-
--- the first that passes a test stays the first
-find_more : {A : Type 0} (test : A → Bool) (xs more : List A) (x : A) → find test xs ≡ Some x → find test (xs ++ more) ≡ Some x
-find_more test [] more x found = absurd (none-some x found)
-find_more test (y ∷ ys) more x found = find_by test (test y) y ys more x (find_more test ys more x) found
 
 mapped_more : {A B : Type 0} (f : A → B) (p q : Option A) (y : B) → ((x : A) → p ≡ Some x → q ≡ Some x) → option_map f p ≡ Some y → option_map f q ≡ Some y
 mapped_more f None q y goes found = absurd (none-some y found)
@@ -59,11 +55,11 @@ module _ (m : Machine) (v : Map) (o : OccurrenceOf m) (goes : GoesOn m v o) (mov
       (λ takes.
       ap (λ activations. owner_of activations a) takes.grown
       ∙ owner_above_call m.entry takes.new o.before.activations a goes.comes.ready.rooted
-      (⊎_elim (λ low. absurd (not_both (m.forgets o (AtByte a)) (takes.taken a stack (ltb-true a (takes.new.base + 4) low) unwritten) kept)) (λ high. high) (or_false (nat_lt a (takes.new.base + 4)))))
+      (⊎_elim (λ low. absurd (not_both (m.forgets o (AtByte a)) (takes.taken a stack (ltb-true a (takes.new.base + 4) low) unwritten) kept)) (λ high. high) (cases_Bool (nat_lt a (takes.new.base + 4)))))
       (λ gives.
       ap (λ activations. owner_of activations a) gives.are
       ∙ sym (owner_above gives.ending gives.parent gives.older a
-      (⊎_elim (λ low. absurd (not_both (m.forgets o (AtByte a)) (gives.given a stack (ltb-true a (gives.ending.base + 4) low)) kept)) (λ high. high) (or_false (nat_lt a (gives.ending.base + 4)))))
+      (⊎_elim (λ low. absurd (not_both (m.forgets o (AtByte a)) (gives.given a stack (ltb-true a (gives.ending.base + 4) low)) kept)) (λ high. high) (cases_Bool (nat_lt a (gives.ending.base + 4)))))
       ∙ ap (λ activations. owner_of activations a) (sym gives.were))
       other)
       moves.calls
@@ -77,7 +73,7 @@ module _ (m : Machine) (v : Map) (o : OccurrenceOf m) (goes : GoesOn m v o) (mov
       spot
       (λ stack. ap (option_map frame_spot) (owner_stays stack))
       (λ found. mapped_more (block_spot key) (find (is_in_allocation a) o.before.allocs) (find (is_in_allocation a) o.after.allocs) spot
-      (λ x first. ap (find (is_in_allocation a)) moves.allocs ∙ find_more (is_in_allocation a) o.before.allocs moves.more x first) found)
+      (λ x first. ap (find (is_in_allocation a)) moves.allocs ∙ found_first (is_in_allocation a) o.before.allocs moves.more x first) found)
       is
 
 -- -- Places
@@ -92,7 +88,7 @@ module _ (m : Machine) (v : Map) (d : Division) (acc : Accesses) (located : IsLo
 
   -- and a location that has a place is a part with that place
   part_of : (s : State) (l : Location) (place : ℕ) → IsLocation l → IsPlaceOf v s l place → (part : Part) × IsPartAt d s l part × HasPlace d part place
-  part_of s (InRegister n) place location is = (OfCore n, refl, (is, let low : n < 8 = ltb-true n 8 (both_of (nat_lt n 8) _ location).0 in omega arith))
+  part_of s (InRegister n) place location is = (OfCore n, refl, (is, let low : n < 8 = ltb-true n 8 (and_parts (nat_lt n 8) _ location).0 in omega arith))
   part_of s (InFlag n) place location is = (OfCore (n + 8), refl, (is, let low : n < 6 = ltb-true n 6 location in omega arith))
   part_of s (AtByte a) place location has =
       let cell = located.cells s a place has in

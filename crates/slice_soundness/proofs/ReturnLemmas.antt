@@ -19,7 +19,7 @@ first_of_list : Activation → List Activation → Activation
 first_of_list d [] = d
 first_of_list d (x ∷ xs) = x
 
-same_first : (x y : Activation) (xs ys : List Activation) → x ∷ xs ≡ y ∷ ys → x ≡ y
+pub same_first : (x y : Activation) (xs ys : List Activation) → x ∷ xs ≡ y ∷ ys → x ≡ y
 unfolding first_of_list
 same_first x y xs ys same = ap (first_of_list x) same
 

@@ -2,7 +2,7 @@
 use Rattle.std.proofs.Common.{◌≡◌, ◌⊎◌, ⊎_elim, ℕ, zero, suc, ◌<◌, List, [], ◌∷◌, get_or, refl, sym, ap, subst, ◌∙◌, arith, inl, inr, ◌≤◌, ltb, ltb-true, ltb-false}
 use Rattle.std.specs.Prelude.{Bool, true, false, Some, slice_get}
 use Rattle.std.proofs.lemmas.Option.{none-some, same_Some, slice_get-get_or, slice_get_within}
-use Rattle.std.proofs.lemmas.Bool.{false≢true, true≢false}
+use Rattle.std.proofs.lemmas.Bool.{false≢true, true≢false, cases_Bool}
 use Rattle.ia32_semantics.specs.State.{State}
 use Rattle.ia32_semantics.specs.Machine.{Machine}
 use Rattle.ia32_semantics.specs.Runs.{OccurrenceOf, Goes, IsRun}
@@ -10,11 +10,6 @@ use Rattle.slice_soundness.specs.Maps.{Map}
 use Rattle.slice_soundness.specs.Premises.{IsReady, Comes, GoesOn, Follows}
 use Rattle.slice_soundness.specs.Laws.{KnowsStates}
 use Rattle.slice_soundness.proofs.StateLemmas.{ready_start, ready_after}
-
--- what is true or false is true, or it is false
-pub or_false : (b : Bool) → (b ≡ true) ⊎ (b ≡ false)
-or_false true = inl refl
-or_false false = inr refl
 
 pub not_both : (b : Bool) → b ≡ true → b ≡ false → ⊥
 not_both true is not = absurd (true≢false not)
@@ -41,7 +36,7 @@ module _ (m : Machine) where
   -- something follows, so the run isn't complete
   not_last : (o p : OccurrenceOf m) (rest : List (OccurrenceOf m)) (k : ℕ) → (m.completes o ≡ true → rest ≡ []) → slice_get rest k ≡ Some p → m.completes o ≡ false
   not_last o p rest k ends is =
-      ⊎_elim (λ last. absurd (none-some p (sym (ap (λ xs. slice_get xs k) (ends last)) ∙ is))) (λ not. not) (or_false (m.completes o))
+      ⊎_elim (λ last. absurd (none-some p (sym (ap (λ xs. slice_get xs k) (ends last)) ∙ is))) (λ not. not) (cases_Bool (m.completes o))
 
   pub happens_at : (s : State) (run : List (OccurrenceOf m)) → Goes m s run → (k : ℕ) (o : OccurrenceOf m) → slice_get run k ≡ Some o → m.Happens o
   happens_at s [] goes k o is = absurd (none-some o is)

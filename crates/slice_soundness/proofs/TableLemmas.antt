@@ -3,6 +3,7 @@ use Rattle.std.proofs.Common.{◌≡◌, zero, suc, Bool, true, false, not, List
 use Rattle.std.specs.Prelude.{if◌then◌else◌, Option, Some, None, Contains}
 use Rattle.std.specs.List.{list_all}
 use Rattle.std.proofs.lemmas.Option.{none-some, same_Some}
+use Rattle.std.proofs.lemmas.Bool.{not-true, and_parts}
 use Rattle.flow_graph.specs.declared.graph.FlowNode.{FlowNode}
 use Rattle.flow_graph.specs.FlowGraph.{Has}
 use Rattle.ia32_semantics.specs.Machine.{Machine}
@@ -14,15 +15,14 @@ use Rattle.slice_soundness.specs.Maps.{Map, here}
 use Rattle.slice_soundness.specs.Premises.{IsClean, IsGraphOf}
 use Rattle.slice_soundness.specs.Tables.{value_in, number_in, Table, IsKept, is_above, has_above, is_closed, is_quiet, IsFlow}
 use Rattle.slice_soundness.proofs.RunLemmas.{not_both}
-use Rattle.slice_soundness.proofs.DataLemmas.{both_of}
 
 -- -- Rows
 
 -- what a test of all elements says of one
 pub all_at : {A : Type 0} (test : A → Bool) (xs : List A) (x : A) → list_all test xs ≡ true → Contains xs x → test x ≡ true
 all_at test [] x all has = absurd (omega (arith, has.1))
-all_at test (y ∷ ys) x all (zero, within, is) = ap test (sym is) ∙ (both_of (test y) _ all).0
-all_at test (y ∷ ys) x all (suc k, within, is) = all_at test ys x (both_of (test y) _ all).1 (k, omega arith, is)
+all_at test (y ∷ ys) x all (zero, within, is) = ap test (sym is) ∙ (and_parts (test y) _ all).0
+all_at test (y ∷ ys) x all (suc k, within, is) = all_at test ys x (and_parts (test y) _ all).1 (k, omega arith, is)
 
 same_row : {A : Type 0} (row : Node × A) (n : Node) (a : A) → row.0 ≡ n → row.1 ≡ a → ◌≡◌ {A = Node × A} row (n, a)
 same_row row n a one two = λ i. (one i, two i)
@@ -53,10 +53,6 @@ number_has node P (row ∷ rows) n a found holds =
 
 -- -- Closed and quiet
 
-is_not : (b : Bool) → not b ≡ true → b ≡ false
-is_not true not_so = sym not_so
-is_not false not_so = refl
-
 above_is : {A : Type 0} (is_below : A → A → Bool) (found : Option A) (a : A) → is_above is_below found a ≡ true → (b : A) × (found ≡ Some b) × (is_below a b ≡ true)
 above_is is_below None a above = absurd (not_both false above refl)
 above_is is_below (Some b) a above = (b, refl, above)
@@ -70,7 +66,7 @@ module _ (m : Machine) (v : Map) (t : Table v) (kept : IsKept v t) where
 
   pub tables_are_clean : is_closed v t m.entry ≡ true → is_quiet v t ≡ true → IsClean m v
   tables_are_clean closed quiet =
-      let both = both_of (has_above v t (entry_node m.entry, v.initial)) _ closed in
+      let both = and_parts (has_above v t (entry_node m.entry, v.initial)) _ closed in
       let entry = there_above (entry_node m.entry) v.initial both.0 in
       record {
         entry = entry.0;
@@ -80,7 +76,7 @@ module _ (m : Machine) (v : Map) (t : Table v) (kept : IsKept v t) where
             let row = row_in t.rows n a (sym (kept.values n) ∙ is) in
             let rows = all_at (λ row. list_all (has_above v t) (t.successors row.0 row.1)) t.rows (n, a) both.1 row in
             there_above to next (all_at (has_above v t) (t.successors n a) (to, next) rows (kept.successors n to a next is comes));
-        quiet = λ n a is. is_not (v.is_warned n) (all_at (λ row. not (v.is_warned row.0)) t.rows (n, a) quiet (row_in t.rows n a (sym (kept.values n) ∙ is)));
+        quiet = λ n a is. not-true (v.is_warned n) (all_at (λ row. not (v.is_warned row.0)) t.rows (n, a) quiet (row_in t.rows n a (sym (kept.values n) ∙ is)));
         canonical = kept.canonical;
       }
 

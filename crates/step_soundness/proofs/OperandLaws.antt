@@ -1,6 +1,5 @@
 -- The values of operands hold what the machine reads.
 use Rattle.std.proofs.Common.{◌≡◌, ℕ, zero, suc, ◌+◌, ◌*◌, ◌/◌, ◌%◌, ◌^◌, ◌<◌, ◌≤◌, Bool, true, false, cond, List, [], ◌∷◌, Option, Some, None, refl, sym, ◌∙◌, ap, subst, arith, lit<}
-use Rattle.std.specs.Prelude.{is_some}
 use Rattle.std.specs.Option.{option_map}
 use Rattle.image_map.specs.declared.image.Image.{Image}
 use Rattle.ia32_types.specs.declared.Mem.{Mem}
@@ -13,7 +12,7 @@ use Rattle.ia32_types.specs.Numbers.{reg_number}
 use Rattle.ia32_types.proofs.NumberLemmas.{reg_number_below}
 use Rattle.ia32_semantics.specs.Operands.{bits, size, low_part, stored_number, register_or_zero as register_reading, address as address_reading, memory_value as memory_reading, value, any_word}
 use Rattle.ia32_semantics.specs.Reading.{Reading, gives, outcome, with_byte, ◌>>=◌}
-use Rattle.ia32_semantics.specs.State.{State, Bytes, bytes_at, joined, little_endian, IsSized}
+use Rattle.ia32_semantics.specs.State.{State, bytes_at, joined, little_endian, IsSized}
 use Rattle.ia32_semantics.proofs.ReadingLemmas.{outcome_bind, then_outcome}
 use Rattle.alocs.specs.Cells.{Division}
 use Rattle.vset.specs.Values.{Values, CanonicalValues, only_number}
@@ -27,7 +26,7 @@ use Rattle.abs_semantics.specs.Ownership.{IsKnown, IsRange}
 use Rattle.abs_semantics.specs.Accesses.{read}
 use Rattle.abs_semantics.specs.Operands.{address, any_of, numbers_or_any, read_as, memory_value, operand_value}
 use Rattle.abs_semantics.proofs.ReadLemmas.{reads_are_members}
-use Rattle.abs_semantics.proofs.FirstLemmas.{below_bytes}
+use Rattle.abs_semantics.proofs.FirstLemmas.{below_bytes, bytes_mapped}
 use Rattle.abs_semantics.proofs.RangeLemmas.{numbers_1, numbers_2, numbers_4}
 use Rattle.step_soundness.specs.Terms.{RegistersHold, register_or_zero, address_in, IsOperand}
 use Rattle.step_soundness.proofs.WordLaws.{word_has, any_has, low_has, high_has}
@@ -61,23 +60,6 @@ number_outcome (suc n) a s words = by (s.memory a) (bytes_at s.memory (a + 1) n)
     by (Some low) (Some bytes) e = outcome_bind (stored_number n (a + 1)) (λ rest. gives (low + 256 * rest)) s words ∙ ap (λ r. then_outcome r (λ x rest. outcome (gives (low + 256 * x)) s rest)) e
 
 -- -- Bytes of memory
-
-bytes_mapped : (m : Bytes) (a n : ℕ) (bytes : List ℕ) → bytes_at m a n ≡ Some bytes → (k : ℕ) → k < n → is_some (m (a + k)) ≡ true
-unfolding bytes_at
-bytes_mapped m a zero bytes e k lt = absurd (omega (arith, lt))
-bytes_mapped m a (suc n) bytes e zero lt = let same : a + 0 ≡ a = omega arith in subst (λ x. is_some (m x) ≡ true) (sym same) (here (m a) (bytes_at m (a + 1) n) e)
-  where
-    here : (o : Option ℕ) (p : Option (List ℕ)) → joined o p ≡ Some bytes → is_some o ≡ true
-    here None p e = cc
-    here (Some b) p e = refl
-bytes_mapped m a (suc n) bytes e (suc k) lt =
-    later (m a) (bytes_at m (a + 1) n) refl e
-    (λ rest f. let same : a + 1 + k ≡ a + suc k = omega arith in subst (λ x. is_some (m x) ≡ true) same (bytes_mapped m (a + 1) n rest f k (omega (arith, lt))))
-  where
-    later : (o : Option ℕ) (p : Option (List ℕ)) → bytes_at m (a + 1) n ≡ p → joined o p ≡ Some bytes → ((rest : List ℕ) → bytes_at m (a + 1) n ≡ Some rest → is_some (m (a + suc k)) ≡ true) → is_some (m (a + suc k)) ≡ true
-    later None p g e next = cc
-    later (Some b) None g e next = cc
-    later (Some b) (Some rest) g e next = next rest g
 
 -- what is read at a width
 read_as_has : (lane : ℕ) (w : World) (width : Width) (v : Values) (n : ℕ) → n < 2 ^ bits width → HasValue lane w n v → HasValue lane w n (read_as width v)

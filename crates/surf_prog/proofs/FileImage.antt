@@ -9,14 +9,16 @@ use Rattle.image_map.specs.Memory.{holds, has_flag, segment_at, is_in}
 use Rattle.image_map.specs.Queries.{byte_at, is_code}
 use Rattle.image_map.specs.Whole.{IsImage}
 use Rattle.elf32.specs.declared.error.ElfError.{ElfError}
-use Rattle.elf32.specs.Checks.{or_else, no_header, wrong_identity, wrong_header, short_tables, wrong_segments, short_sections}
-use Rattle.elf32.specs.Shapes.{Shape, shapes, in_shape}
+use Rattle.elf32.specs.Checks.{no_header, wrong_identity, wrong_header, short_tables, wrong_segments, short_sections}
+use Rattle.elf32.specs.Shapes.{in_shape}
 use Rattle.elf32.specs.Relocating.{Relocated}
 use Rattle.elf32.specs.Loading.{outcome, error_of, wrong_relocation, failure, Shows, Loads}
 use Rattle.elf32.proofs.Whole.{shown_image}
 use Rattle.ia32_semantics.specs.Fetch.{code_byte, begun_by, code_run}
 use Rattle.command_words.specs.declared.line.Entry.{Entry}
 use Rattle.command_words.specs.declared.line.Entry.TheVariants as entries
+use Rattle.elf32.proofs.Sound.{neither}
+use Rattle.image_map.specs.Shapes.{Shape, shapes}
 use Rattle.surf_prog.specs.Straight.Bytes.{most_code, code_of, HoldsCode}
 use Rattle.surf_prog.specs.Entry.{entry_place, Enters, LacksEntry}
 use Rattle.surf_prog.proofs.CodeLaws.{held_code}
@@ -24,23 +26,19 @@ use Rattle.surf_prog.proofs.SegmentLaws.{flagged_below}
 
 -- -- A file with an image passes each check
 
-else_none : (a b : Option ElfError) → or_else a b ≡ None → (a ≡ None) × (b ≡ None)
-else_none None b e = (refl, e)
-else_none (Some x) b e = absurd (cc)
-
 pub record Passes (file : List ℕ) : Type 0 where
   pub segments : wrong_segments file ≡ None
   pub relocations : wrong_relocation file ≡ None
 
 passes : (file : List ℕ) → failure file ≡ None → Passes file
 passes file none =
-    let one = else_none (no_header file) _ none in
-    let two = else_none (wrong_identity file) _ one.1 in
-    let three = else_none (wrong_header file) _ two.1 in
-    let four = else_none (short_tables file) _ three.1 in
-    let five = else_none (wrong_segments file) _ four.1 in
-    let six = else_none (short_sections file) _ five.1 in
-    let seven = else_none (wrong_relocation file) None six.1 in
+    let one = neither (no_header file) _ none in
+    let two = neither (wrong_identity file) _ one.1 in
+    let three = neither (wrong_header file) _ two.1 in
+    let four = neither (short_tables file) _ three.1 in
+    let five = neither (wrong_segments file) _ four.1 in
+    let six = neither (short_sections file) _ five.1 in
+    let seven = neither (wrong_relocation file) None six.1 in
     record { segments = five.0; relocations = seven.0 }
 
 -- what an image of a file shows

@@ -8,9 +8,7 @@ use Rattle.std.specs.Fmt.{decimal}
 use Rattle.image_map.specs.declared.image.Image.{Image}
 use Rattle.ia32_types.specs.declared.Instr.{Instr}
 use Rattle.surf_prog.specs.Listing.{StandsAt, Follow, instr_line, listing_text, IsListing, IsTheListing}
-use Rattle.ia32_semantics.specs.Fetch.{fetch_window, IsFetched}
-use Rattle.ia32_fetch.proofs.FetchLaws.{fetched_begins}
-use Rattle.surf_prog.proofs.OneBegins.{one_begins}
+use Rattle.slice_soundness.proofs.ArchitectureLemmas.{one_fetched}
 
 -- The lines so far, of instructions behind which stands what follows at a place.
 pub record Told (image : Image) (at steps place count : ℕ) (text : List ℕ) : Type 0 where
@@ -63,9 +61,6 @@ told_all image at steps place count text new told ends new_is =
       follow = subst (λ (l : List Instr). Follow image steps at l) (append-nil told.instrs) (told.forth [] last);
       text_is = new_is ∙ ap (λ l. l ++ (codes "end " ++ (decimal count ++ 10 ∷ []))) told.text_is ∙ ap (λ n. flat_map instr_line told.instrs ++ (codes "end " ++ (decimal n ++ 10 ∷ []))) (sym told.counted);
     }
-
-one_fetched : (image : Image) (a : ℕ) (i j : Instr) → IsFetched image a i → IsFetched image a j → i ≡ j
-one_fetched image a i j p q = one_begins (fetch_window image a) a i j ((fetched_begins image a i).1 p) ((fetched_begins image a j).1 q)
 
 -- the instructions from an address on are one list
 one_following : (image : Image) (n at : ℕ) (is js : List Instr) → Follow image n at is → Follow image n at js → is ≡ js

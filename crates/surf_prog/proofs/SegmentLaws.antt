@@ -1,13 +1,12 @@
 -- What lies in a segment of an image lies below the end of their addresses.
-use Rattle.std.proofs.Common.{◌≡◌, ℕ, ◌-◌, ◌<◌, List, [], ◌∷◌, length, Option, Some, None, refl, cond, arith}
+use Rattle.std.proofs.Common.{◌≡◌, ℕ, ◌-◌, ◌<◌, List, [], ◌∷◌, length, Option, Some, refl, cond, arith}
 use Rattle.std.specs.Prelude.{Bool, true, false, nat_le, nat_lt, is_some}
-use Rattle.std.specs.Option.{option_map_or}
-use Rattle.std.proofs.lemmas.Bool.{false≢true}
+use Rattle.std.proofs.lemmas.Bool.{false≢true, and_parts}
 use borrow.Author.Tests.{leb-true, ltb-true}
 use Rattle.image_map.specs.declared.image.Segment.{Segment}
 use Rattle.image_map.specs.Memory.{holds, segment_at, is_in}
 use Rattle.image_map.specs.Whole.{IsPlaced, ArePlaced}
-use Rattle.surf_prog.proofs.StraightCode.PlaceLemmas.{both_of}
+use Rattle.item_list.proofs.OptionLaws.{some_passes}
 
 -- segments lie below this address
 abbrev pub image_end : ℕ
@@ -15,7 +14,7 @@ image_end = 0x7FFFFFFF
 
 held_below : (s : Segment) (a : ℕ) → IsPlaced s → holds a s ≡ true → a < image_end
 held_below s a placed held =
-    let both = both_of (nat_le s.start a) (nat_lt (a - s.start) (length s.bytes)) held in
+    let both = and_parts (nat_le s.start a) (nat_lt (a - s.start) (length s.bytes)) held in
     let low = leb-true s.start a both.0 in
     let high = ltb-true (a - s.start) (length s.bytes) both.1 in
     let end = placed.high in
@@ -29,10 +28,6 @@ pub segments_below : (segments : List Segment) (a : ℕ) → ArePlaced segments 
 segments_below [] a placed h = absurd (false≢true h)
 segments_below (s ∷ ss) a placed h = found_below s a (holds a s) (segment_at ss a) refl placed.0 (λ there. segments_below ss a placed.2 there) h
 
-some_holds : (o : Option Segment) (f : Segment → Bool) → option_map_or f o false ≡ true → is_some o ≡ true
-some_holds None f h = absurd (false≢true h)
-some_holds (Some s) f h = refl
-
 -- so does what lies in one with a flag
 pub flagged_below : (segments : List Segment) (bit a : ℕ) → ArePlaced segments → is_in segments bit a ≡ true → a < image_end
-flagged_below segments bit a placed h = segments_below segments a placed (some_holds (segment_at segments a) _ h)
+flagged_below segments bit a placed h = segments_below segments a placed (some_passes (segment_at segments a) _ h)

@@ -4,34 +4,22 @@ use Rattle.std.specs.Prelude.{Option, Some, None, option_map, slice_get, if◌th
 use Rattle.std.specs.List.Sorted.{IsPartitionedBy, IsPartitionPoint}
 use Rattle.std.specs.Option.{option_map_or}
 use Rattle.std.proofs.lemmas.Bool.{ltb-true, ltb-false, cases_Bool, cond-true, cond-false, and_right, and_left}
+use Rattle.std.proofs.lemmas.Option.{slice_get-get_or, slice_get_past}
 use Rattle.sweeps.specs.Meaning.{Meaning, IsLawful}
 use Rattle.sweeps.specs.Sweeps.{is_same_place, has_above, IsAhead, AreRising}
 use Rattle.sweeps.specs.Kept.{rank_by, number_of}
 
 -- -- A search by halves
 
-rank_go : {X : Type 0} (test : X → Bool) (xs : List X) (i : ℕ) → i ≤ length xs → IsPartitionPoint (λ x. test x ≡ true) (λ x. test x ≡ false) xs i → i ≡ rank_by test xs
-unfolding rank_by
-rank_go test [] zero within point = refl
-rank_go test [] (suc i) within point = absurd (omega arith)
-rank_go test (x ∷ xs) zero within point = sym (cond-false (test x) _ _ (point.1 0 x (omega arith) (omega arith)))
-rank_go test (x ∷ xs) (suc i) within point =
-    ap suc (rank_go test xs i (omega arith) (λ k d low high. point.0 (suc k) d (omega arith) (omega arith), λ k d low high. point.1 (suc k) d (omega arith) (omega arith)))
-    ∙ sym (cond-true (test x) _ _ (point.0 0 x (omega arith) (omega arith)))
-
 -- where the search ends, as many stand before as pass the test
 pub rank_at_point : {X : Type 0} (test : X → Bool) (xs : List X) (i : ℕ) → i ≤ length xs → IsPartitionPoint (λ x. test x ≡ true) (λ x. test x ≡ false) xs i → i ≡ rank_by test xs
-rank_at_point = rank_go
-
-past : {X : Type 0} (xs : List X) (n : ℕ) → length xs ≤ n → slice_get xs n ≡ None
-past [] n le = refl
-past (x ∷ xs) zero le = absurd (omega arith)
-past (x ∷ xs) (suc n) le = past xs n (omega arith)
-
-there : {X : Type 0} (xs : List X) (n : ℕ) (d : X) → n < length xs → slice_get xs n ≡ Some (get_or xs n d)
-there [] n d lt = absurd (omega arith)
-there (x ∷ xs) zero d lt = refl
-there (x ∷ xs) (suc n) d lt = there xs n d (omega arith)
+unfolding rank_by
+rank_at_point test [] zero within point = refl
+rank_at_point test [] (suc i) within point = absurd (omega arith)
+rank_at_point test (x ∷ xs) zero within point = sym (cond-false (test x) _ _ (point.1 0 x (omega arith) (omega arith)))
+rank_at_point test (x ∷ xs) (suc i) within point =
+    ap suc (rank_at_point test xs i (omega arith) (λ k d low high. point.0 (suc k) d (omega arith) (omega arith), λ k d low high. point.1 (suc k) d (omega arith) (omega arith)))
+    ∙ sym (cond-true (test x) _ _ (point.0 0 x (omega arith) (omega arith)))
 
 module _ {P S : Type 0} (m : Meaning P S) (h : IsLawful m) where
   ahead_at : {X : Type 0} (place : X → P) (p : P) (xs : List X) → IsAhead m p (map place xs) → (j : ℕ) (d : X) → j < length xs → m.before p (place (get_or xs j d)) ≡ true
@@ -102,12 +90,12 @@ module _ {P S : Type 0} (m : Meaning P S) (h : IsLawful m) where
         (cases_Bool (m.before (place x) p))
 
     pub none_found : (p : P) (s : S) (xs : List X) (n : ℕ) → AreRising m (map place xs) → n ≡ rank_by (λ x. m.before (place x) p) xs → false ≡ ltb n (length xs) → false ≡ has_above m (table xs) (p, s)
-    none_found p s xs n rising at is = sym (above_at p s xs rising ∙ ap (found p s) (ap (slice_get xs) (sym at) ∙ past xs n (ltb-false n (length xs) (sym is))))
+    none_found p s xs n rising at is = sym (above_at p s xs rising ∙ ap (found p s) (ap (slice_get xs) (sym at) ∙ slice_get_past xs n (ltb-false n (length xs) (sym is))))
 
     one_found : (p : P) (s : S) (xs : List X) (n : ℕ) (x : X) → AreRising m (map place xs) → n ≡ rank_by (λ x. m.before (place x) p) xs → true ≡ ltb n (length xs) → x ≡ get_or xs n x
         → has_above m (table xs) (p, s) ≡ not (m.before p (place x)) && m.below s (state x)
     one_found p s xs n x rising at is here =
-        above_at p s xs rising ∙ ap (found p s) (ap (slice_get xs) (sym at) ∙ there xs n x (ltb-true n (length xs) (sym is)) ∙ ap Some (sym here))
+        above_at p s xs rising ∙ ap (found p s) (ap (slice_get xs) (sym at) ∙ slice_get-get_or xs n x (ltb-true n (length xs) (sym is)) ∙ ap Some (sym here))
 
     pub later_found : (p : P) (s : S) (xs : List X) (n : ℕ) (x : X) → AreRising m (map place xs) → n ≡ rank_by (λ x. m.before (place x) p) xs → true ≡ ltb n (length xs) → x ≡ get_or xs n x
         → m.before p (place x) ≡ true → false ≡ has_above m (table xs) (p, s)
@@ -162,12 +150,12 @@ module _ {P S : Type 0} (m : Meaning P S) (h : IsLawful m) where
         (cases_Bool (m.before (place x) p))
 
     pub no_number : (p : P) (xs : List X) (n : ℕ) → AreRising m (map place xs) → n ≡ rank_by (λ x. m.before (place x) p) xs → false ≡ ltb n (length xs) → None ≡ number_of m (map place xs) p
-    no_number p xs n rising at is = sym (number_at p xs rising ∙ ap (λ k. number_by p (slice_get xs k) k) (sym at) ∙ ap (λ o. number_by p o n) (past xs n (ltb-false n (length xs) (sym is))))
+    no_number p xs n rising at is = sym (number_at p xs rising ∙ ap (λ k. number_by p (slice_get xs k) k) (sym at) ∙ ap (λ o. number_by p o n) (slice_get_past xs n (ltb-false n (length xs) (sym is))))
 
     number_found : (p : P) (xs : List X) (n : ℕ) (x : X) → AreRising m (map place xs) → n ≡ rank_by (λ x. m.before (place x) p) xs → true ≡ ltb n (length xs) → x ≡ get_or xs n x
         → number_of m (map place xs) p ≡ number_by p (Some x) n
     number_found p xs n x rising at is here =
-        number_at p xs rising ∙ ap (λ k. number_by p (slice_get xs k) k) (sym at) ∙ ap (λ o. number_by p o n) (there xs n x (ltb-true n (length xs) (sym is)) ∙ ap Some (sym here))
+        number_at p xs rising ∙ ap (λ k. number_by p (slice_get xs k) k) (sym at) ∙ ap (λ o. number_by p o n) (slice_get-get_or xs n x (ltb-true n (length xs) (sym is)) ∙ ap Some (sym here))
 
     pub behind_number : (p : P) (xs : List X) (n : ℕ) (x : X) → AreRising m (map place xs) → n ≡ rank_by (λ x. m.before (place x) p) xs → true ≡ ltb n (length xs) → x ≡ get_or xs n x
         → m.before p (place x) ≡ true → None ≡ number_of m (map place xs) p

@@ -35,9 +35,6 @@ all_both : {X : Type 0} {Q R T : X → Type 0} (xs : List X) → ((x : X) → Q 
 all_both [] step a b = tt
 all_both (x ∷ xs) step a b = (step x a.0 b.0, all_both xs step a.1 b.1)
 
-none_at : (b : Bool) → b ≡ true → b ≡ false → ⊥
-none_at b t f = true≢false (sym t ∙ f)
-
 module _ {P S : Type 0} where
   pub pairs_all : (ks : List (Kept P S)) → map pair_of (all_arrivals ks) ≡ stored ks
   pairs_all [] = refl

@@ -1,12 +1,11 @@
 -- Joining the results of pairs, step by step.
 
 use Rattle.std.proofs.Common.{◌≡◌, ℕ, ◌+◌, ◌<◌, ◌≤◌, List, [], ◌∷◌, ◌++◌, length, map, drop, get_or, Option, Some, None, refl, sym, ◌∙◌, ap}
-use Rattle.std.proofs.lemmas.List.{drop_more}
+use Rattle.std.proofs.lemmas.List.{drop_more, drop_all}
 use Rattle.vset.specs.declared.part.Part.{Part}
 use Rattle.vset.specs.declared.part.Both.TheVariants.{Joined}
 use Rattle.vset.specs.declared.sums.Pairing.{Pairing}
 use Rattle.vset.specs.Operations.{pair_of, pairs, with_part, gathered}
-use Rattle.vset.proofs.PartLemmas.{none_left}
 
 -- -- A row: one part and each of some others
 
@@ -42,7 +41,7 @@ module _ (pairing : Pairing) (x : Part) (ys : List Part) (i : ℕ) (y : Part) wh
 
 pub row_all : (pairing : Pairing) (x : Part) (ys : List Part) (i : ℕ) (out : List Part) (whole : Option (List Part)) → length ys ≤ i → gathered out (row pairing x (drop i ys)) ≡ whole → Some out ≡ whole
 unfolding gathered
-row_all pairing x ys i out whole h e = ap (λ t. gathered out (row pairing x t)) (sym (none_left ys i h)) ∙ e
+row_all pairing x ys i out whole h e = ap (λ t. gathered out (row pairing x t)) (sym (drop_all i ys h)) ∙ e
 
 -- -- All rows
 
@@ -71,4 +70,4 @@ module _ (pairing : Pairing) (xs ys : List Part) (i : ℕ) (x : Part) where
 
 pub rows_all : (pairing : Pairing) (xs ys : List Part) (i : ℕ) (out : List Part) (whole : Option (List Part)) → length xs ≤ i → gathered out (pairs pairing (drop i xs) ys) ≡ whole → Some out ≡ whole
 unfolding gathered
-rows_all pairing xs ys i out whole h e = ap (λ t. gathered out (pairs pairing t ys)) (sym (none_left xs i h)) ∙ e
+rows_all pairing xs ys i out whole h e = ap (λ t. gathered out (pairs pairing t ys)) (sym (drop_all i xs h)) ∙ e

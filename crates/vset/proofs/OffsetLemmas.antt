@@ -2,7 +2,7 @@
 
 use Rattle.std.proofs.Common.{◌≡◌, ℕ, ◌+◌, ◌<◌, ◌≤◌, Bool, true, false, cond, not, inl, inr, List, [], ◌∷◌, length, drop, get_or, filter, refl, sym, ◌∙◌, ap, ℤ}
 use Rattle.std.specs.List.{list_any}
-use Rattle.std.proofs.lemmas.List.{drop_more}
+use Rattle.std.proofs.lemmas.List.{drop_more, drop_all}
 use Rattle.std.proofs.lemmas.Bool.{cond_both}
 use Rattle.image_map.specs.declared.region.RegionId.{RegionId}
 use Rattle.image_map.specs.Regions.{same_region, region_before}
@@ -14,7 +14,6 @@ use Rattle.vset.specs.declared.part.Both.TheVariants.{Joined}
 use Rattle.vset.specs.Values.{Values, Top, Parts, says_nothing, settled}
 use Rattle.vset.specs.Operations.{part, both_of, with_part, without_region, renamed_into, with_renamed, drop_region, age, also}
 use Rattle.vset.specs.Members.{IsOffset, HasOffset}
-use Rattle.vset.proofs.PartLemmas.{none_left}
 
 -- -- The loop
 
@@ -29,7 +28,7 @@ renamed_step from to ps whole i p out next lt is put e =
 
 pub renamed_all : (from to : RegionId) (ps : List Part) (i : ℕ) (out whole : List Part) → length ps ≤ i → with_renamed from to (drop i ps) out ≡ whole → out ≡ whole
 unfolding with_renamed
-renamed_all from to ps i out whole h e = ap (λ t. with_renamed from to t out) (sym (none_left ps i h)) ∙ e
+renamed_all from to ps i out whole h e = ap (λ t. with_renamed from to t out) (sym (drop_all i ps h)) ∙ e
 
 -- -- Offsets
 

@@ -1,7 +1,7 @@
 -- Putting parts among parts, step by step.
 
 use Rattle.std.proofs.Common.{◌≡◌, ℕ, zero, suc, ◌+◌, ◌<◌, ◌≤◌, Bool, true, false, ◌||◌, List, [], ◌∷◌, ◌++◌, length, take, drop, get_or, refl, sym, ◌∙◌, ap, subst, append_assoc, arith}
-use Rattle.std.proofs.lemmas.List.{take_more, drop_more}
+use Rattle.std.proofs.lemmas.List.{take_more, drop_more, drop_all}
 use Rattle.std.specs.List.{list_any}
 use Rattle.std.proofs.lemmas.Bool.{cond-true, or_left}
 use Rattle.image_map.specs.declared.region.RegionId.{RegionId}
@@ -49,16 +49,9 @@ with_step both ps whole i x items out next lt is lent put e =
     ∙ sym (with_more both ps out i x lt)
     ∙ e
 
--- nothing is left past the end
-pub none_left : {A : Type 0} (xs : List A) (i : ℕ) → length xs ≤ i → drop i xs ≡ []
-none_left [] zero h = refl
-none_left [] (suc i) h = refl
-none_left (x ∷ xs) zero h = absurd (omega arith)
-none_left (x ∷ xs) (suc i) h = none_left xs i (omega arith)
-
 pub with_all : (both : Both) (ps : List Part) (i : ℕ) (out whole : List Part) → length ps ≤ i → with_parts both (drop i ps) out ≡ whole → out ≡ whole
 unfolding with_parts
-with_all both ps i out whole h e = ap (λ t. with_parts both t out) (sym (none_left ps i h)) ∙ e
+with_all both ps i out whole h e = ap (λ t. with_parts both t out) (sym (drop_all i ps h)) ∙ e
 
 -- -- Intervals of the one form
 
@@ -91,4 +84,4 @@ any_later t xs i x whole lt is fails e =
     ap (λ b. b || list_any t (drop (i + 1) xs)) (sym here) ∙ ap (list_any t) (sym (drop_more xs i x lt)) ∙ e
 
 pub any_none : {A : Type 0} (t : A → Bool) (xs : List A) (i : ℕ) (whole : Bool) → length xs ≤ i → list_any t (drop i xs) ≡ whole → false ≡ whole
-any_none t xs i whole h e = ap (list_any t) (sym (none_left xs i h)) ∙ e
+any_none t xs i whole h e = ap (list_any t) (sym (drop_all i xs h)) ∙ e

@@ -3,7 +3,7 @@
 use Rattle.std.proofs.Common.{◌≡◌, ℕ, suc, ◌+◌, ◌<◌, ◌≤◌, ◌==◌, Bool, true, false, ◌&&◌, List, [], ◌∷◌, length, drop, get_or, refl, sym, ◌∙◌, ap, subst}
 use Rattle.std.specs.Cmp.{signed_Decides}
 use Rattle.std.specs.Ordering.{int_eq}
-use Rattle.std.proofs.lemmas.List.{drop_more}
+use Rattle.std.proofs.lemmas.List.{drop_more, drop_all}
 use Rattle.std.proofs.lemmas.Bool.{and_parts, and_from, eqb-true, eq-eqb}
 use Rattle.image_map.specs.Regions.{same_region}
 use Rattle.image_map.proofs.OrderLaws.{same_region-equal, same_region-itself}
@@ -11,9 +11,8 @@ use Rattle.strided.specs.Interval.{Interval}
 use Rattle.vset.specs.declared.part.Part.{Part}
 use Rattle.vset.specs.Values.{Values, Top, Parts}
 use Rattle.vset.specs.Operations.{same_interval, same_part, same_parts, same_values}
-use Rattle.vset.proofs.PartLemmas.{none_left}
 
-same_interval-equal : (a b : Interval) → same_interval a b ≡ true → a ≡ b
+pub same_interval-equal : (a b : Interval) → same_interval a b ≡ true → a ≡ b
 same_interval-equal a b e =
     let outer = and_parts (a.stride == b.stride && int_eq a.lo b.lo) (int_eq a.hi b.hi) e in
     let inner = and_parts (a.stride == b.stride) (int_eq a.lo b.lo) outer.0 in
@@ -25,7 +24,7 @@ same_interval-equal a b e =
 same_interval-itself : (a : Interval) → same_interval a a ≡ true
 same_interval-itself a = and_from _ _ (and_from _ _ (eq-eqb a.stride a.stride refl) ((signed_Decides a.lo a.lo).1 refl)) ((signed_Decides a.hi a.hi).1 refl)
 
-same_part-equal : (x y : Part) → same_part x y ≡ true → x ≡ y
+pub same_part-equal : (x y : Part) → same_part x y ≡ true → x ≡ y
 same_part-equal x y e =
     let both = and_parts (same_region x.region y.region) (same_interval x.si y.si) e in
     let region : x.region ≡ y.region = same_region-equal x.region y.region both.0 in
@@ -94,4 +93,4 @@ module _ (xs ys : List Part) (i : ℕ) (x y : Part) where
 pub same_all : (xs ys : List Part) (i : ℕ) (whole : Bool) → length xs ≤ i → length ys ≤ i → same_parts (drop i xs) (drop i ys) ≡ whole → true ≡ whole
 unfolding same_parts
 same_all xs ys i whole hx hy e =
-    ap (λ t. same_parts t []) (sym (none_left xs i hx)) ∙ ap (λ t. same_parts (drop i xs) t) (sym (none_left ys i hy)) ∙ e
+    ap (λ t. same_parts t []) (sym (drop_all i xs hx)) ∙ ap (λ t. same_parts (drop i xs) t) (sym (drop_all i ys hy)) ∙ e

@@ -2,20 +2,16 @@
 use Rattle.std.proofs.Common.{◌≡◌, ℕ, zero, suc, ◌+◌, ◌<◌, ◌≤◌, List, [], ◌∷◌, ◌++◌, length, take, drop, get_or, Some, None, refl, sym, ap, subst, length-append, ◌∙◌, inl, inr, arith}
 use Rattle.std.specs.Prelude.{true, slice_index, if◌then◌else◌, ◌⊎◌}
 use Rattle.std.proofs.lemmas.Bool.{cases_lt}
-use Rattle.std.proofs.lemmas.List.{take_at, take-append-drop, take-take, take-append-le, length-take-le, length-take, length-drop, get_or-drop}
+use Rattle.std.proofs.lemmas.List.{take_at, take-take, take-append-le, length-take-le, length-take, length-drop, get_or-drop}
 use Rattle.ia32_types.specs.declared.Instr.{Instr}
 use Rattle.ia32_types.specs.Spells.{Spells, Begins}
 use Rattle.ia32_types.proofs.SpellsLemmas.{one_spelling}
 use Rattle.image_map.specs.declared.image.Image.{Image}
 use Rattle.image_map.specs.Queries.{byte_at, is_code}
 use Rattle.ia32_semantics.specs.Fetch.{code_byte, begun_by, code_run, longest_instruction, fetch_window, IsFetched}
+use Rattle.item_list.proofs.ListLaws.{take_split}
 use Rattle.surf_prog.specs.Straight.Bytes.{HoldsCode}
 use Rattle.surf_prog.proofs.StraightCode.PlaceLemmas.{split}
-
--- a shorter beginning of some bytes begins a longer one
-take_split : (bytes : List ℕ) (m n : ℕ) → m ≤ n → take n bytes ≡ take m bytes ++ drop m (take n bytes)
-take_split bytes m n h =
-    sym (take-append-drop m (take n bytes)) ∙ ap (λ l. l ++ drop m (take n bytes)) (take-take m n bytes h)
 
 in_order : (m n : ℕ) → (m ≤ n) ⊎ (n ≤ m)
 in_order m n = split (cases_lt m n) (λ lt. inl (omega arith)) (λ le. inr le)

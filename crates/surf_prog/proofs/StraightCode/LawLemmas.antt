@@ -3,7 +3,7 @@ use Rattle.std.proofs.Common.{◌≡◌, ℕ, suc, ◌+◌, ◌<◌, List, [], �
 use Rattle.std.specs.Prelude.{nat_lt, if◌then◌else◌, Bool, true, false, slice_get, Contains, IsTrue}
 use Rattle.std.specs.Option.{is_none}
 use Rattle.std.proofs.lemmas.Option.{none-some, same_Some}
-use Rattle.std.proofs.lemmas.Bool.{false≢true, ltb-true}
+use Rattle.std.proofs.lemmas.Bool.{false≢true, ltb-true, and_parts}
 use Rattle.ia32_types.specs.declared.Instr.{Instr}
 use Rattle.ia32_types.specs.Places.{registers_read, registers_written, flags_read, flags_written}
 use Rattle.image_map.specs.declared.image.Image.{Image}
@@ -32,7 +32,7 @@ use Rattle.surf_prog.specs.Straight.Runs.{RunsExecuteInOrder, ReadsHaveEdges, Sl
 use Rattle.surf_prog.proofs.StraightCode.GraphLemmas.{node_by, has_from, from_has}
 use Rattle.surf_prog.proofs.StraightCode.ListLemmas.{IsRisingCode, begins_at, rising_listed}
 use Rattle.surf_prog.proofs.StraightCode.MapLemmas.{is_among, index_in, stands_as, index_is, among_is, IsWalked, straight_map, Taken, taken, onward, last_is, row}
-use Rattle.surf_prog.proofs.StraightCode.PlaceLemmas.{both_of, register_place, place_register, flag_place, place_flag}
+use Rattle.surf_prog.proofs.StraightCode.PlaceLemmas.{register_place, place_register, flag_place, place_flag}
 use Rattle.surf_prog.proofs.StraightCode.WalkLemmas.{Ready, AreExecuted, executed, executed_at}
 
 -- the first instruction stands at the entry
@@ -108,7 +108,7 @@ module _ (image : Image) (settings : Settings) (code : List ℕ) (instrs : List 
   tables o t = steps_keep_to_tables image t.instr o t.does.runs.act t.does.step
 
   register : (n : ℕ) → IsLocation (InRegister n) → n < 8
-  register n is = ltb-true n 8 (both_of (nat_lt n 8) _ is).0
+  register n is = ltb-true n 8 (and_parts (nat_lt n 8) _ is).0
 
   flag : (n : ℕ) → IsLocation (InFlag n) → n < 6
   flag n is = ltb-true n 6 is

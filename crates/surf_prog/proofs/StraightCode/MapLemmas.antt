@@ -3,7 +3,7 @@
 use Rattle.std.proofs.Common.{◌≡◌, inl, ℕ, zero, suc, ◌+◌, ◌<◌, List, [], ◌∷◌, drop, Option, Some, None, refl, sym, ap, subst, ◌∙◌, cond, arith}
 use Rattle.std.specs.Prelude.{◌==◌, ◌||◌, if◌then◌else◌, Bool, true, false, slice_get}
 use Rattle.std.specs.List.{list_any, AllByRecursion}
-use Rattle.std.proofs.lemmas.Bool.{false≢true, eqb-true, eq-eqb, ne_eqb}
+use Rattle.std.proofs.lemmas.Bool.{false≢true, eqb-true, eq-eqb, ne_eqb, or_right, or_left}
 use Rattle.std.proofs.lemmas.Option.{none-some, same_Some}
 use Rattle.ia32_types.specs.declared.Instr.{Instr}
 use Rattle.ia32_types.specs.Spells.{Begins}
@@ -16,7 +16,6 @@ use Rattle.ia32_semantics.specs.Machine.{Occurrence}
 use Rattle.ia32_semantics.specs.Runs.{stands_at}
 use Rattle.ia32_semantics.specs.Step.{Act, Happens, completes}
 use Rattle.ia32_semantics.specs.Ia32.{machine}
-use Rattle.ia32_semantics.proofs.ReadingLemmas.{or_left, or_right}
 use Rattle.slice_soundness.specs.Maps.{Map}
 use Rattle.slice_soundness.specs.Premises.{Row}
 use Rattle.surf_prog.specs.Straight.Code.{Lists, straight_graph}

@@ -1,7 +1,7 @@
 -- The places of a straight node are exactly those that its instruction reads and writes.
 use Rattle.std.proofs.Common.{◌≡◌, ℕ, zero, suc, ◌+◌, ◌-◌, ◌<◌, List, [], ◌∷◌, ◌++◌, refl, sym, ap, subst, ◌∙◌, inl, inr, arith}
-use Rattle.std.specs.Prelude.{◌⊎◌, ◌&&◌, ◌||◌, ◌==◌, if◌then◌else◌, Bool, true, false, Contains, IsTrue}
-use Rattle.std.proofs.lemmas.Bool.{false≢true, cases_eq, eq-eqb, ne_eqb, lt-ltb, le-ltb}
+use Rattle.std.specs.Prelude.{◌⊎◌, ◌||◌, ◌==◌, if◌then◌else◌, Bool, true, false, Contains, IsTrue}
+use Rattle.std.proofs.lemmas.Bool.{false≢true, cases_eq, lt-ltb, le-ltb}
 use Rattle.std.proofs.lemmas.List.Elements.{Contains-append_left, Contains-append_right, Contains-append_cases}
 use Rattle.ia32_types.specs.declared.Reg.{Reg}
 use Rattle.ia32_types.specs.declared.Flag.{Flag}
@@ -9,17 +9,13 @@ use Rattle.ia32_types.specs.Numbers.{reg_number, reg_of, flag_number, flag_of}
 use Rattle.ia32_types.specs.Sets.{is_listed_reg, is_listed_flag}
 use Rattle.ia32_types.proofs.NumberLemmas.{number_of_reg, number_of_flag}
 use Rattle.ia32_semantics.specs.Laws.{has_register, has_flag}
+use Rattle.item_list.proofs.TruthLaws.{eqb_swapped}
 use Rattle.surf_prog.specs.Straight.Code.{one_if, numbers_below, is_place, places}
 
 -- one of two cases
 pub split : {A B C : Type 0} → A ⊎ B → (A → C) → (B → C) → C
 split (inl a) f g = f a
 split (inr b) f g = g b
-
--- both halves of a test
-pub both_of : (a b : Bool) → IsTrue (a && b) → IsTrue a × IsTrue b
-both_of true b h = (refl, h)
-both_of false b h = absurd (false≢true h)
 
 pub either_of : (a b : Bool) → IsTrue (a || b) → IsTrue a ⊎ IsTrue b
 either_of true b h = inl refl
@@ -60,19 +56,16 @@ below_more test old new n m holds so_far is added e =
 
 -- -- Registers and flags by their numbers
 
-eq_either : (a b : ℕ) → (a == b) ≡ (b == a)
-eq_either a b = split (cases_eq a b) (λ same. eq-eqb a b same ∙ sym (eq-eqb b a (sym same))) (λ other. ne_eqb a b other ∙ sym (ne_eqb b a (λ same. other (sym same))))
-
 listed_register : (registers : List Reg) (n : ℕ) → n < 8 → is_listed_reg registers (reg_of n) ≡ has_register registers n
 listed_register [] n low = refl
 listed_register (r ∷ rest) n low =
-    ap (λ b. b || is_listed_reg rest (reg_of n)) (ap (λ k. k == reg_number r) (number_of_reg n low) ∙ eq_either n (reg_number r))
+    ap (λ b. b || is_listed_reg rest (reg_of n)) (ap (λ k. k == reg_number r) (number_of_reg n low) ∙ eqb_swapped n (reg_number r))
     ∙ ap (λ b. (reg_number r == n) || b) (listed_register rest n low)
 
 listed_flag : (flags : List Flag) (n : ℕ) → n < 6 → is_listed_flag flags (flag_of n) ≡ has_flag flags n
 listed_flag [] n low = refl
 listed_flag (f ∷ rest) n low =
-    ap (λ b. b || is_listed_flag rest (flag_of n)) (ap (λ k. k == flag_number f) (number_of_flag n low) ∙ eq_either n (flag_number f))
+    ap (λ b. b || is_listed_flag rest (flag_of n)) (ap (λ k. k == flag_number f) (number_of_flag n low) ∙ eqb_swapped n (flag_number f))
     ∙ ap (λ b. (flag_number f == n) || b) (listed_flag rest n low)
 
 register_is : (registers : List Reg) (flags : List Flag) (n : ℕ) → n < 8 → is_place registers flags n ≡ has_register registers n

@@ -1,19 +1,16 @@
 -- Each image has a start.
 use Rattle.std.proofs.Common.{◌≡◌, ℕ, ◌+◌, ◌-◌, ◌^◌, ◌<◌, [], ◌∷◌, Option, Some, None, refl, ap, subst, ◌∙◌, inl, cond, arith}
 use Rattle.std.specs.Prelude.{Bool, true, false, ◌&&◌, ◌||◌, ◌==◌, if◌then◌else◌, nat_le, nat_lt, is_some, unwrap_or}
-use Rattle.std.specs.Option.{option_and_then}
 use Rattle.std.proofs.lemmas.Option.{none-some, same_Some}
 use borrow.Author.Tests.{lt-leb}
-use Rattle.image_map.specs.declared.image.Segment.{Segment}
 use Rattle.image_map.specs.declared.image.Image.{Image}
-use Rattle.image_map.specs.Memory.{segment_at}
 use Rattle.image_map.specs.Queries.{is_in_segment, byte_at}
-use Rattle.image_map.specs.Ranges.{is_any}
 use Rattle.image_map.specs.Whole.{ArePlaced}
 use Rattle.image_map.specs.declared.region.Settings.{Settings}
 use Rattle.ia32_semantics.specs.State.{Bytes, State, esp, bytes_at, little_endian}
 use Rattle.ia32_semantics.specs.Outcome.{is_in_stack}
 use Rattle.ia32_semantics.specs.CallModel.{entry_activation}
+use Rattle.image_map.proofs.SegmentLaws.{known_there}
 use Rattle.surf_prog.specs.Straight.Runs.{ImagesStart}
 use Rattle.surf_prog.proofs.SegmentLaws.{image_end, segments_below}
 
@@ -47,14 +44,14 @@ start_state settings image = record {
 -- -- Choices
 
 -- what is chosen of three is there where one of the first two is
-is_there : (in_stack in_segment : Bool) (x y : ℕ) → is_some (cond in_stack (Some x) (cond in_segment (Some y) None)) ≡ (in_segment || in_stack)
+is_there : (in_stack known_there : Bool) (x y : ℕ) → is_some (cond in_stack (Some x) (cond known_there (Some y) None)) ≡ (known_there || in_stack)
 is_there true true x y = refl
 is_there true false x y = refl
 is_there false true x y = refl
 is_there false false x y = refl
 
-chosen_below : (in_stack in_segment : Bool) (x y byte bound : ℕ) → x < bound → y < bound → cond in_stack (Some x) (cond in_segment (Some y) None) ≡ Some byte → byte < bound
-chosen_below true in_segment x y byte bound x_below y_below e = subst (λ v. v < bound) (same_Some x byte e) x_below
+chosen_below : (in_stack known_there : Bool) (x y byte bound : ℕ) → x < bound → y < bound → cond in_stack (Some x) (cond known_there (Some y) None) ≡ Some byte → byte < bound
+chosen_below true known_there x y byte bound x_below y_below e = subst (λ v. v < bound) (same_Some x byte e) x_below
 chosen_below false true x y byte bound x_below y_below e = subst (λ v. v < bound) (same_Some y byte e) y_below
 chosen_below false false x y byte bound x_below y_below e = absurd (none-some byte e)
 
@@ -68,15 +65,6 @@ known_below (Some byte) bound some below = below byte refl
 
 -- -- The image's bytes
 
--- a known byte comes from a segment
-from_segment : (any : Bool) (o : Option Segment) (f : Segment → Option ℕ) (byte : ℕ) → cond any None (option_and_then f o) ≡ Some byte → is_some o ≡ true
-from_segment true o f byte e = absurd (none-some byte e)
-from_segment false None f byte e = absurd (none-some byte e)
-from_segment false (Some s) f byte e = refl
-
-in_segment : (image : Image) (a byte : ℕ) → byte_at image a ≡ Some byte → is_in_segment image a ≡ true
-in_segment image a byte e = from_segment (is_any image.any_bytes a) (segment_at image.segments a) _ byte e
-
 outside : (a : ℕ) → a < image_end → is_in_stack slot a ≡ false
 outside a h =
     let before : nat_le (slot - 2 ^ 20) a ≡ false = lt-leb (slot - 2 ^ 20) a (omega arith) in
@@ -85,7 +73,7 @@ outside a h =
 -- a known byte is in the memory of the start
 known : (image : Image) (a byte : ℕ) → ArePlaced image.segments → byte_at image a ≡ Some byte → start_memory image a ≡ Some byte
 known image a byte placed e =
-    let there = in_segment image a byte e in
+    let there = known_there image a byte e in
     let no_stack = outside a (segments_below image.segments a placed there) in
     ap (λ b. if b then Some (stack_byte a) else (if is_in_segment image a then Some (segment_byte image a) else None)) no_stack
     ∙ ap (λ b. if b then Some (segment_byte image a) else None) there

@@ -2,7 +2,7 @@
 use Rattle.std.proofs.Common.{◌≡◌, ℕ, zero, suc, ◌+◌, ◌-◌, ◌%◌, ◌^◌, ◌<◌, List, [], ◌∷◌, length, take, drop, Some, None, refl, sym, ap, subst, ◌∙◌, inl, inr, arith}
 use Rattle.std.specs.Prelude.{true, false, not, ◌&&◌, ◌⊎◌, slice_get, IsTrue}
 use Rattle.std.proofs.lemmas.Option.{none-some, same_Some}
-use Rattle.std.proofs.lemmas.Bool.{false≢true, lt-ltb}
+use Rattle.std.proofs.lemmas.Bool.{false≢true, lt-ltb, and_parts}
 use Rattle.std.proofs.Math.Nat.{mod-eq_of_lt}
 use borrow.Author.Tests.{leb-true, eqb-true}
 use Rattle.ia32_types.specs.declared.Op.TheVariants as op
@@ -24,7 +24,7 @@ use Rattle.ia32_semantics.specs.Laws.{is_repeated, may_keep_flags, is_shift, is_
 use Rattle.ia32_semantics.specs.Ia32.{machine}
 use Rattle.surf_prog.specs.Straight.Bytes.{HoldsCode}
 use Rattle.surf_prog.specs.Straight.Runs.{Executed}
-use Rattle.surf_prog.proofs.StraightCode.PlaceLemmas.{split, both_of, either_of}
+use Rattle.surf_prog.proofs.StraightCode.PlaceLemmas.{split, either_of}
 use Rattle.surf_prog.proofs.SegmentLaws.{flagged_below}
 use Rattle.surf_prog.proofs.StraightCode.StepLemmas.{IsPlain, moves_number, moves_register, adds_register, Keeps, plain_step, plain_bytes, return_step, return_bytes}
 use Rattle.surf_prog.proofs.StraightCode.FetchLemmas.{IsSpelled, is_spelled, one_fetched, code_after}
@@ -50,13 +50,13 @@ plain_is (suc n) [] at i h s = absurd (not_empty at i s)
 plain_is (suc n) (opcode ∷ rest) at i h s =
     split (either_of _ _ h)
     (λ number.
-    let range = both_of _ _ number in
+    let range = and_parts _ _ number in
     let low = leb-true 0xB8 opcode range.0 in
     let high = leb-true opcode 0xBF range.1 in
     let spelled = mov_number_spelled opcode (take n rest) at i low (omega arith) s in
     moves_number (opcode - 0xB8) spelled.0 spelled.2)
     (λ registers.
-    let form = both_of _ _ registers in
+    let form = and_parts _ _ registers in
     split (either_of _ _ form.0)
     (λ move. register_move rest n at i form.1 (subst (λ b. Spells (b ∷ take n rest) at i) (eqb-true opcode 0x89 move) s))
     (λ addition. register_addition rest n at i form.1 (subst (λ b. Spells (b ∷ take n rest) at i) (eqb-true opcode 0x01 addition) s)))

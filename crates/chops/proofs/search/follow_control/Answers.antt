@@ -2,7 +2,8 @@ use Rattle.std.proofs.Common.{◌≡◌, ◌∙◌, refl, arith, length}
 use Rattle.std.proofs.lemmas.Grind.{common_steps}
 use Rattle.control_walks.specs.ControlWalks.{Controls}
 use Rattle.slicer.proofs.GrowLemmas.{grows-none, grows-then}
-use Rattle.chops.proofs.AlongLemmas.{all_begin, all_end, all_more, inside_rest, inside_some}
+use Rattle.dep_graph.proofs.SpreadLemmas.{inside-part}
+use Rattle.chops.proofs.AlongLemmas.{all_begin, all_end, all_more, inside_some}
 use Rattle.chops.proofs.search.follow_control.Goals as goal
 
 pub loop-rest-init : goal.loop-rest-init
@@ -21,7 +22,7 @@ pub loop-rest-preserved : goal.loop-rest-preserved
 loop-rest-preserved c = record {
   size = c.follow_some.ensures.size ∙ c.loop-rest.invariant.size;
   walks = c.follow_some.ensures.walks ∙ c.loop-rest.invariant.walks;
-  inside = inside_rest c.args.graph.now.nodes c.loop-rest.rest.now c.split_at.result.1.now c.min.result c.split_at.ensures.back c.loop-rest.invariant.inside;
+  inside = inside-part c.args.graph.now.nodes c.loop-rest.rest.now c.split_at.result.1.now c.min.result c.split_at.ensures.back c.loop-rest.invariant.inside;
   grows = grows-then (Controls c.args.graph.now.nodes) c.args.queue.now.nodes c.loop-rest.queue.nodes c.follow_some.new.queue.nodes c.loop-rest.invariant.grows c.follow_some.ensures.grows;
   comes = all_more c.args.graph.now.nodes c.args.nodes.now c.loop-rest.rest.now c.split_at.result.0.now c.split_at.result.1.now c.args.queue.now.nodes c.loop-rest.queue.nodes c.follow_some.new.queue.nodes c.min.result
       c.split_at.ensures.front c.split_at.ensures.back c.loop-rest.invariant.grows c.follow_some.ensures.grows c.loop-rest.invariant.comes c.follow_some.ensures.follows;

@@ -1,6 +1,7 @@
 use Rattle.std.proofs.Common.{◌≡◌, map, drop}
 use Rattle.std.specs.List.{flat_map}
-use Rattle.elf32.specs.Shapes.{shapes, load_shape}
+use Rattle.image_map.specs.Shapes.{shapes}
+use Rattle.elf32.specs.Shapes.{load_shape}
 use Rattle.elf32.specs.Relocating.{relocated, relocations_of}
 use Rattle.elf32.specs.Programs.{shown}
 use Rattle.elf32.proofs.relocate.relocate_all.Given as goal

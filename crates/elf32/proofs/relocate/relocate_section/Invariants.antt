@@ -1,5 +1,6 @@
 use Rattle.std.proofs.Common.{◌≡◌, map}
-use Rattle.elf32.specs.Shapes.{shapes, load_shape}
+use Rattle.image_map.specs.Shapes.{shapes}
+use Rattle.elf32.specs.Shapes.{load_shape}
 use Rattle.elf32.specs.Relocating.{relocation}
 use Rattle.elf32.specs.Programs.{shown}
 use Rattle.elf32.proofs.Folding.{Remains}

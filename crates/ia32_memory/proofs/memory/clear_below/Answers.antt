@@ -1,5 +1,6 @@
 use Rattle.std.proofs.Common.{max, subst, sym, ap, ◌∙◌}
-use Rattle.ia32_memory.specs.Mapped.{bytes_of, shapes, AreWithin, IsClear}
+use Rattle.image_map.specs.Shapes.{shapes}
+use Rattle.ia32_memory.specs.Mapped.{bytes_of, AreWithin, IsClear}
 use Rattle.ia32_memory.proofs.ClearLemmas.{all_cleared, all_cleared_bytes, all_cleared_shapes, all_cleared_within, all_cleared_clear, cleared_first}
 use Rattle.ia32_memory.proofs.memory.clear_below.Goals as goal
 

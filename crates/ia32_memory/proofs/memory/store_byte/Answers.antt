@@ -1,13 +1,14 @@
 use Rattle.std.proofs.Common.{get_or, sym}
 use Rattle.std.proofs.lemmas.List.Quantifiers.{position-Some}
 use Rattle.image_map.specs.Memory.{holds}
-use Rattle.ia32_memory.proofs.WriteLemmas.{put_here, put_nowhere, set_shapes, set_within, short}
+use Rattle.image_map.proofs.SegmentLaws.{offset_within, set_shapes}
+use Rattle.ia32_memory.proofs.WriteLemmas.{put_here, put_nowhere, set_within}
 use Rattle.ia32_memory.proofs.memory.store_byte.Goals as goal
 
 pub set-requires : goal.set-requires
 set-requires c =
     let p = position-Some (holds c.args.address) c.args.segments.now c.in-Some.at c.index-segments-at.result (sym c.in-Some.ensures) in
-    rw c.saturating_sub-offset.ensures (short (get_or c.args.segments.now c.in-Some.at c.index-segments-at.result) c.args.address p.1)
+    rw c.saturating_sub-offset.ensures (offset_within (get_or c.args.segments.now c.in-Some.at c.index-segments-at.result) c.args.address p.1)
 
 pub returns-in-None-clause-bytes : goal.returns-in-None-clause-bytes
 returns-in-None-clause-bytes c = put_nowhere c.args.segments.now c.args.address c.args.byte (sym c.in-None.ensures)

@@ -1,5 +1,5 @@
-use Rattle.ia32_run.proofs.WriterLemmas.{sorted_kept}
 use Rattle.last_writers.proofs.StepLemmas.{writers_rise}
+use Rattle.item_list.proofs.ListLaws.{sorted_kept}
 use Rattle.ia32_run.proofs.writers.listed.Goals as goal
 
 pub returns-clause-rising : goal.returns-clause-rising

@@ -1,7 +1,7 @@
 use Rattle.std.proofs.Common.{◌+◌, cond, subst, sym, ap, ◌∙◌}
 use Rattle.std.specs.Prelude.{List, is_some}
 use Rattle.image_map.specs.declared.image.Segment.{Segment}
-use Rattle.image_map.specs.Ranges.{within}
+use Rattle.item_list.specs.Ranges.{within}
 use Rattle.ia32_memory.specs.Mapped.{bytes_of, is_open_at, AreWithin, IsClear, zeros_from}
 use Rattle.ia32_memory.specs.Changes.{with_zeros}
 use Rattle.ia32_memory.proofs.MakeLemmas.{zeros_within, added_within, added_clear, added_zeros, added_zeros_open}

@@ -1,6 +1,7 @@
 use Rattle.std.proofs.Common.{◌≡◌}
-use Rattle.image_map.specs.Ranges.{within}
-use Rattle.ia32_memory.specs.Mapped.{bytes_of, shapes}
+use Rattle.image_map.specs.Shapes.{shapes}
+use Rattle.item_list.specs.Ranges.{within}
+use Rattle.ia32_memory.specs.Mapped.{bytes_of}
 use Rattle.ia32_memory.specs.Changes.{cleared}
 use Rattle.ia32_memory.proofs.memory.Memory.clear_range.Given as goal
 

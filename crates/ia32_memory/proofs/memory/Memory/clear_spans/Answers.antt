@@ -2,8 +2,9 @@ use Rattle.std.proofs.Common.{get_or, take, ap, sym, ◌∙◌}
 use Rattle.std.specs.Prelude.{List}
 use Rattle.std.proofs.lemmas.List.{take_all, take_more}
 use Rattle.image_map.specs.declared.spans.Span.{Span}
-use Rattle.image_map.specs.Ranges.{is_any, within}
+use Rattle.image_map.specs.Ranges.{is_any}
 use Rattle.ia32_semantics.specs.State.{Bytes}
+use Rattle.item_list.specs.Ranges.{within}
 use Rattle.ia32_memory.specs.Mapped.{bytes_of}
 use Rattle.ia32_memory.specs.Changes.{cleared}
 use Rattle.ia32_memory.proofs.StartLemmas.{spans_more}

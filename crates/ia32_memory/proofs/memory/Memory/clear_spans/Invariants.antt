@@ -1,6 +1,7 @@
 use Rattle.std.proofs.Common.{◌≡◌, take}
 use Rattle.image_map.specs.Ranges.{is_any}
-use Rattle.ia32_memory.specs.Mapped.{bytes_of, shapes}
+use Rattle.image_map.specs.Shapes.{shapes}
+use Rattle.ia32_memory.specs.Mapped.{bytes_of}
 use Rattle.ia32_memory.specs.Changes.{cleared}
 use Rattle.ia32_memory.proofs.memory.Memory.clear_spans.Given as goal
 

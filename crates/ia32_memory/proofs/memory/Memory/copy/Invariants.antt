@@ -1,6 +1,7 @@
 use Rattle.std.proofs.Common.{◌≡◌, ◌-◌}
 use Rattle.ia32_semantics.specs.Operands.{size}
-use Rattle.ia32_memory.specs.Mapped.{bytes_of, shapes}
+use Rattle.image_map.specs.Shapes.{shapes}
+use Rattle.ia32_memory.specs.Mapped.{bytes_of}
 use Rattle.ia32_memory.specs.Changes.{copied_over}
 use Rattle.ia32_memory.proofs.memory.Memory.copy.Given as goal
 

@@ -2,7 +2,8 @@ use Rattle.std.proofs.Common.{◌≡◌, ◌-◌, ◌∷◌, List, subst, sym, a
 use Rattle.image_map.specs.declared.image.Segment.{Segment}
 use Rattle.image_map.specs.declared.spans.Span.{Span}
 use Rattle.image_map.specs.Ranges.{is_any}
-use Rattle.ia32_memory.specs.Mapped.{bytes_of, shapes, AreWithin, IsClear, HaveBytes, zeros_from}
+use Rattle.image_map.specs.Shapes.{shapes}
+use Rattle.ia32_memory.specs.Mapped.{bytes_of, AreWithin, IsClear, HaveBytes, zeros_from}
 use Rattle.ia32_memory.specs.Changes.{cleared}
 use Rattle.ia32_memory.proofs.ShapeLaws.{same_open, same_first}
 use Rattle.ia32_memory.proofs.MakeLemmas.{zeros_within, zeros_clear}

@@ -1,0 +1,12 @@
+-- What the standard library's lemmas on truth values lack.
+use Rattle.std.proofs.Common.{◌≡◌, ℕ, zero, suc, ◌+◌, Bool, true, false, cond, refl, sym, ◌∙◌, subst, ⊎_elim, arith}
+use Rattle.std.specs.Prelude.{◌==◌}
+use Rattle.std.proofs.lemmas.Bool.{cases_eq, eq-eqb, ne_eqb}
+
+pub eqb_swapped : (a b : ℕ) → (a == b) ≡ (b == a)
+eqb_swapped a b = ⊎_elim (λ same. eq-eqb a b same ∙ sym (eq-eqb b a (sym same))) (λ other. ne_eqb a b other ∙ sym (ne_eqb b a (λ same. other (sym same)))) (cases_eq a b)
+
+-- a fact of a count, from the fact of one more and of none
+pub counted : (b : Bool) (n : ℕ) (P : ℕ → Type 0) → (b ≡ true → P (suc n)) → (b ≡ false → P 0) → P (cond b (1 + n) 0)
+counted true n P here there = let e : suc n ≡ 1 + n = omega arith in subst P e (here refl)
+counted false n P here there = there refl
