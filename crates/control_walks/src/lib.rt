@@ -10,6 +10,7 @@ mod rows;
 mod scratch;
 mod split;
 
+pub use rows::with_bit;
 pub use scratch::{WalkScratch, controls, flood, flood_all};
 pub use split::at_of;
 

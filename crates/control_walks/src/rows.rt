@@ -16,8 +16,8 @@ fn is_at(nodes: &[FlowNode], node: u32, at: u32) -> bool
     }
 }
 
-// A word with bit k set as well, where it is wished.
-fn with_bit(word: u64, k: usize, is_set: bool) -> u64
+/// A word with bit k set as well, where it is wished.
+pub fn with_bit(word: u64, k: usize, is_set: bool) -> u64
     requires { k < 64 }
     ensures { (j : ℕ) → IsBit result j ↔ (IsBit word j ⊎ (IsTrue is_set × (j ≡ k))) }
 {

@@ -86,7 +86,7 @@ ordinary-edges g nodes places slice edges items same slice_is items_is used list
     ))
     lists))
 
-one-place : (place one : ℕ) → Contains (one ∷ []) place → one ≡ place
+pub one-place : (place one : ℕ) → Contains (one ∷ []) place → one ≡ place
 one-place place one (zero, within, is) = is
 one-place place one (suc k, within, is) = absurd (omega arith)
 

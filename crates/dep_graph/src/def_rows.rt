@@ -36,8 +36,8 @@ impl DefRows {
     }
 }
 
-// All numbers below this one.
-fn numbers(alloc: Global, count: u32) -> Result<Vec<u32>, AllocError>
+/// All numbers below this one.
+pub fn numbers(alloc: Global, count: u32) -> Result<Vec<u32>, AllocError>
     ensures { IfOk result (λ list. (n : ℕ) → Contains list.items n ↔ (n < count)) }
 {
     let mut list = Vec::new(alloc);

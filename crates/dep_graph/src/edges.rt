@@ -22,8 +22,8 @@ pub struct Edges {
     pub sp: Items<(u32, u32)>,
 }
 
-// Puts a number at the end, where it is wished.
-fn push_if(list: &mut Vec<u32>, item: u32, is_wished: bool) -> Result<(), AllocError>
+/// Puts a number at the end, where it is wished.
+pub fn push_if(list: &mut Vec<u32>, item: u32, is_wished: bool) -> Result<(), AllocError>
     ensures { OnOk result (list.new.items ≡ (if is_wished then list.old.items ++ item ∷ [] else list.old.items)) }
 {
     if is_wished {
@@ -97,8 +97,8 @@ fn edges_by(
     Ok(edges)
 }
 
-// The places other than ESP that some node may use, each once.
-fn used_places(alloc: Global, nodes: &[FlowNode]) -> Result<Vec<u32>, AllocError>
+/// The places other than ESP that some node may use, each once.
+pub fn used_places(alloc: Global, nodes: &[FlowNode]) -> Result<Vec<u32>, AllocError>
     ensures { IfOk result (λ places. (place : ℕ) → Contains places.items place ↔ IsUsed nodes.now place) }
 {
     let mut places = Vec::new(alloc);

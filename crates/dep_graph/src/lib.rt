@@ -7,11 +7,12 @@
 mod def_rows;
 mod edges;
 pub mod laws;
-mod pairs;
+pub mod pairs;
 mod spread;
 
-pub use def_rows::{DefRows, reaching};
-pub use edges::{Edges, data_edges};
+pub use def_rows::{DefRows, numbers, reaching};
+pub use edges::{ESP, Edges, data_edges, push_if, used_places, users};
+pub use spread::{all_unless, may_define, must_define};
 
 #[cfg(test)]
 mod tests;

@@ -1,4 +1,4 @@
-// Pairs of nodes: rows of marks while they are found, and then a rising list.
+//! Pairs of nodes: rows of marks while they are found, and then a rising list.
 ghost use Rattle.std.specs.Prelude.{◌≡◌, ◌⊎◌, ℕ, ◌<◌, ◌≤◌, ◌^◌, ◌↔◌, ◌∷◌, [], ◌++◌, false, if◌then◌else◌, length, replicate, IsTrue, IfOk, OnOk, slice_index};
 ghost use Rattle.flow_graph.specs.Walks.{IsOn};
 ghost use Rattle.flow_graph.specs.Rows.{IsBit};
@@ -19,8 +19,8 @@ pub fn no_pairs(alloc: Global, count: usize) -> Result<Vec<Items<bool>>, AllocEr
     Ok(pairs)
 }
 
-// Whether bit k is set.
-fn has_bit(word: u64, k: usize) -> bool
+/// Whether bit k is set.
+pub fn has_bit(word: u64, k: usize) -> bool
     requires { k < 64 }
     ensures { IsTrue result ↔ IsBit word k }
 {
@@ -53,8 +53,13 @@ pub fn scatter(word: u64, targets: &[u32], row: &mut Items<bool>)
     }
 }
 
-// Puts a pair at the end, where it is wished.
-fn push_if(list: &mut Vec<(u32, u32)>, m: u32, n: u32, is_wished: bool) -> Result<(), AllocError>
+/// Puts a pair at the end, where it is wished.
+pub fn push_if(
+    list: &mut Vec<(u32, u32)>,
+    m: u32,
+    n: u32,
+    is_wished: bool,
+) -> Result<(), AllocError>
     ensures { OnOk result (list.new.items ≡ (if is_wished then list.old.items ++ (m, n) ∷ [] else list.old.items)) }
 {
     if is_wished {

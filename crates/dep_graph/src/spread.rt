@@ -31,8 +31,8 @@ pub fn must_define(node: &FlowNode, place: u32) -> bool
     node.must_def.as_slice().contains(&place)
 }
 
-// All bits, or none.
-fn all_unless(is_none: bool) -> u64
+/// All bits, or none.
+pub fn all_unless(is_none: bool) -> u64
     ensures { (k : ℕ) → k < 64 → IsBit result k ↔ (¬ IsTrue is_none) }
 {
     if is_none {

@@ -14,7 +14,7 @@ pub use graph::{RoundGraph, slice_laws};
 pub use list::list_slice;
 pub use queue::Queue;
 pub use scratch::{Absent, Scratch, backward};
-pub use search::{begin, follow};
+pub use search::{begin, follow, follow_edges, sweep};
 
 #[cfg(test)]
 mod tests;

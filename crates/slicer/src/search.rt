@@ -50,8 +50,8 @@ fn sweep_back(pairs: &[(u32, u32)], queue: &mut Queue)
     }
 }
 
-// Goes back over these edges, the last first and then the first first.
-fn sweep(pairs: &[(u32, u32)], queue: &mut Queue)
+/// Goes back over these edges, the last first and then the first first.
+pub fn sweep(pairs: &[(u32, u32)], queue: &mut Queue)
     requires room { All (λ pair. pair.0 < queue.old.size) pairs.now }
     ensures grows { Grows (IsBefore pairs.now) queue.old.nodes queue.new.nodes }
     ensures follows { Follows (IsBefore pairs.now) queue.old.nodes queue.new.nodes }
@@ -63,8 +63,8 @@ fn sweep(pairs: &[(u32, u32)], queue: &mut Queue)
     }
 }
 
-// Goes back over the edges of a graph, those by ESP unless they are left out.
-fn follow_edges(edges: &Edges, skip_sp: bool, queue: &mut Queue)
+/// Goes back over the edges of a graph, those by ESP unless they are left out.
+pub fn follow_edges(edges: &Edges, skip_sp: bool, queue: &mut Queue)
     requires ordinary_room { All (λ pair. pair.0 < queue.old.size) edges.now.ordinary }
     requires sp_room { All (λ pair. pair.0 < queue.old.size) edges.now.sp }
     ensures grows { Grows (λ n m. ListedEdge edges.now.ordinary edges.now.sp skip_sp m n) queue.old.nodes queue.new.nodes }
