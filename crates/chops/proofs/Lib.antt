@@ -5,3 +5,8 @@ pub mod AlongLemmas
 pub mod ForwardLemmas
 pub mod WalkerLemmas
 pub mod ChopLemmas
+pub mod PairSetLemmas
+pub mod CountLemmas
+pub mod TraceLemmas
+pub mod HopLemmas
+pub mod WhyLemmas

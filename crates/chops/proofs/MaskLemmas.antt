@@ -147,8 +147,3 @@ split_controls g targets flooded b k inside floods = (
         };
       },
 )
-
--- one bit of a word
-pub bit_of : (word k : ℕ) (is : Bool) → is ≡ (word / 2 ^ k % 2 == 1) → IsTrue is ↔ IsBit word k
-unfolding IsBit
-bit_of word k is told = (λ h. eqb-true (word / 2 ^ k % 2) 1 (sym told ∙ h), λ h. told ∙ eq-eqb (word / 2 ^ k % 2) 1 h)

@@ -9,7 +9,7 @@ use std::marker::Model;
 
 /// Addresses, in room for as many as there are nodes.
 #[derive(Debug, Drop)]
-pub(crate) struct Listing {
+pub struct Listing {
     found: Vec<u32>,
     list: Vec<u32>,
     listed: usize,
@@ -28,7 +28,7 @@ impl Model for Listing {
 
 impl Listing {
     /// No address, with room for so many.
-    pub(crate) fn new(alloc: Global, size: usize) -> Result<Listing, AllocError>
+    pub fn new(alloc: Global, size: usize) -> Result<Listing, AllocError>
         ensures { IfOk result (λ l. l.size ≡ size) }
     {
         let found = vec![in alloc; 0; size]?;
@@ -41,7 +41,7 @@ impl Listing {
     }
 
     /// Lists the addresses of these nodes.
-    pub(crate) fn list(&mut self, nodes: &[FlowNode], met: &[u32])
+    pub fn list(&mut self, nodes: &[FlowNode], met: &[u32])
         requires inside { All (λ n. n < length nodes.now) met.now }
         requires room { length met.now ≤ self.old.size }
         ensures listed { AreAddresses nodes.now (Contains met.now) self.new.addresses }
@@ -51,7 +51,7 @@ impl Listing {
     }
 
     /// The addresses last listed.
-    pub(crate) fn addresses(&self) -> &[u32]
+    pub fn addresses(&self) -> &[u32]
         ensures { result.now ≡ self.now.addresses }
     {
         &self.list[..self.listed]

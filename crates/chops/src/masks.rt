@@ -1,5 +1,5 @@
 //! Which of up to 64 flooded nodes branches control, one bit each.
-ghost use Rattle.std.specs.Prelude.{◌≡◌, ◌↔◌, ℕ, ◌<◌, Contains, IsTrue, slice_get};
+ghost use Rattle.std.specs.Prelude.{◌≡◌, ◌↔◌, ℕ, Contains, IsTrue, slice_get};
 ghost use Rattle.std.specs.Option.{option_copied};
 ghost use Rattle.flow_graph.specs.Rows.{IsBit};
 ghost use Rattle.chops.specs.Masks.{IsShared, IsSplit, ShowsSome};
@@ -70,8 +70,8 @@ fn node_at(nodes: &[FlowNode], node: u32) -> Option<&FlowNode>
     nodes.get(node as usize)
 }
 
-// The bits of the flooded nodes that a branch controls.
-fn split(rows: &Rows, branch: u32) -> u64
+/// The bits of the flooded nodes that a branch controls.
+pub(crate) fn split(rows: &Rows, branch: u32) -> u64
     ensures { (k : ℕ) → IsBit result k ↔ IsSplit rows.now.nodes.now rows.now.reaching.now rows.now.escaping.now branch k }
 {
     match node_at(rows.nodes, branch) {
@@ -94,12 +94,4 @@ pub(crate) fn split_by(rows: &Rows, branches: &[u32]) -> u64
         word |= split(rows, *branch);
     }
     word
-}
-
-/// Whether a word has a bit.
-pub(crate) fn has_bit(word: u64, k: usize) -> bool
-    requires { k < 64 }
-    ensures { IsTrue result ↔ IsBit word k }
-{
-    (word >> k) % 2 == 1
 }

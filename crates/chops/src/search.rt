@@ -6,9 +6,10 @@ ghost use Rattle.slicer.specs.Slicer.{Arrow, HasNodes, ListedEdge};
 ghost use Rattle.slicer.specs.Search.{Adds, Follows, Grows};
 ghost use Rattle.chops.specs.Following.{FollowsOn, IsAfter};
 
-use crate::masks::{Rows, has_bit, split_by};
+use crate::masks::{Rows, split_by};
 use control_walks::{WalkScratch, flood_all};
 use dep_graph::Edges;
+use dep_graph::pairs::has_bit;
 use flow_graph::FlowGraph;
 use slicer::{Queue, RoundGraph};
 

@@ -1,8 +1,8 @@
-//! Small graphs as text, their forward slices and chops.
+//! Small graphs as text, their forward slices, chops and shortest paths.
 ghost use Rattle.std.specs.Prelude.{IfOk};
 ghost use Rattle.slicer.specs.Slicer.{HasNodes};
 
-use super::{ChopAbsent, ChopScratch, chop, forward};
+use super::{ChopAbsent, ChopScratch, Hop, HopKind, WhyError, chop, forward, why};
 use flow_graph::{FlowGraph, FlowNode};
 use item_list::Items;
 use slicer::RoundGraph;
@@ -92,11 +92,41 @@ fn chopped(
     Ok((absent, listed))
 }
 
+// A path by its words: the address where it begins, then `p` or `b` with each address to which it comes by place or by branch.
+fn path(alloc: Global, text: &str) -> Result<Vec<Hop>, AllocError> {
+    let mut hops = Vec::new(alloc);
+    for word in text.split_whitespace() {
+        let hop = if let Some(number) = word.strip_prefix('p') {
+            hop(number, HopKind::ByPlace)
+        } else if let Some(number) = word.strip_prefix('b') {
+            hop(number, HopKind::ByBranch)
+        } else {
+            hop(word, HopKind::First)
+        };
+        hops.push(hop)?;
+    }
+    Ok(hops)
+}
+
+fn hop(number: &str, kind: HopKind) -> Hop {
+    Hop {
+        at: number.parse().unwrap_or(0),
+        kind,
+    }
+}
+
 /// 10 defines what 12 uses; 11 decides whether 12 or 13 is done; 14 uses the result of 13 and hands on by ESP to 15.
 const WAYS: &str = "10 >1 d0; 11 >2 >3 u1; 12 >4 u0 d2; 13 >4 d3; 14 >5 u3 d4; 15 u4";
 
 /// 22 decides on a loop; the end stands at 21 too, so that 22 doesn't decide whether 21 is done.
 const LOOP: &str = "20 >1 d0; 21 >2 u0 d0; 22 >1 >3 u0; 23 >4 u0 d1; 21 u1";
+
+/// A test at 0 decides at 2 whether 4 or 11 is done, each of which defines what 16 uses.
+const BRANCH: &str =
+    "0 >1 u0 d10; 2 >2 >4 u10; 4 >3 d1; 9 >5; 11 >5 d1; 16 >6 u1 d2; 18 >7 u3 d6; 20 u4";
+
+/// 30 decides on 31, and defines by ESP what 31 uses.
+const BOTH: &str = "30 >1 >2 d4; 31 >2 u4; 32";
 
 #[test]
 fn forward_slices(rt: HostRuntime) -> Result<(), Fail> {
@@ -132,6 +162,33 @@ fn chops(rt: HostRuntime) -> Result<(), Fail> {
         let (missing, found) = chopped(alloc, &graph(alloc, WAYS)?, from, to, skip_sp)?;
         assert_eq!(rt; missing, absent, "{from} {to}");
         assert_eq!(rt; found, numbers(alloc, listed)?, "{from} {to}");
+    }
+    Ok(())
+}
+
+#[test]
+fn paths(rt: HostRuntime) -> Result<(), Fail> {
+    let alloc = rt.alloc();
+    for (ways, from, to, skip_sp, expected) in [
+        (BRANCH, 0, 16, false, "0 p2 b4 p16"),
+        (BRANCH, 16, 16, false, "16"),
+        (BRANCH, 0, 18, false, ""),
+        (BOTH, 30, 31, false, "30 p31"),
+        (BOTH, 30, 31, true, "30 b31"),
+        (WAYS, 11, 15, false, "11 b13 p14 p15"),
+        (WAYS, 11, 15, true, ""),
+        (LOOP, 20, 23, false, "20 p21 p23"),
+    ] {
+        let found = why(alloc, &graph(alloc, ways)?, from, to, skip_sp);
+        assert_eq!(rt; found, Ok(path(alloc, expected)?), "{from} {to}");
+    }
+    let ways = graph(alloc, WAYS)?;
+    for (from, to, error) in [(16, 17, WhyError::From), (11, 17, WhyError::To)] {
+        assert_eq!(rt;
+            why(alloc, &ways, from, to, false),
+            Err(error),
+            "{from} {to}"
+        );
     }
     Ok(())
 }

@@ -29,8 +29,8 @@ impl Model for Walker {
     ghost invariant = { λ w. (w.walks.size ≡ length w.numbers.items) × AreNumbers w.numbers.items × (length w.numbers.items < 2 ^ 32) };
 }
 
-// The numbers from 0 up to, and without, this one.
-fn count_up(alloc: Global, end: u32) -> Result<Vec<u32>, AllocError>
+/// The numbers from 0 up to, and without, this one.
+pub(crate) fn count_up(alloc: Global, end: u32) -> Result<Vec<u32>, AllocError>
     ensures numbers { IfOk result (λ v. AreNumbers v.items) }
     ensures many { IfOk result (λ v. length v.items ≡ end) }
 {
