@@ -1,0 +1,4 @@
+pub mod TakingLemmas
+pub mod ScanLemmas
+pub mod FetchLemmas
+pub mod RiseLemmas
