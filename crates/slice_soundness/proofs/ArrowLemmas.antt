@@ -10,7 +10,8 @@ use Rattle.ia32_semantics.specs.Runs.{OccurrenceOf, stands_at, IsRun}
 use Rattle.ia32_semantics.specs.Dependence.{DirectDependence, Chain, Depends}
 use Rattle.slice_soundness.specs.Maps.{Map, number_of}
 use Rattle.slice_soundness.specs.Premises.{Describes}
-use Rattle.slice_soundness.specs.Arrows.{EdgeTo, Arrow, InSlice}
+use Rattle.slicer.specs.Slicer.{FlowEdge, InSlice}
+use Rattle.slice_soundness.specs.Arrows.{FlowArrow}
 use Rattle.slice_soundness.specs.Laws.{StandsAtNumber, DependencesAreArrows, DependencesAreChains, SlicesListDependences}
 use Rattle.slice_soundness.proofs.RunLemmas.{comes_at}
 use Rattle.slice_soundness.proofs.WalkLemmas.{meets_node}
@@ -35,8 +36,8 @@ module _ (m : Machine) (v : Map) (d : Describes m v) where
   pub dependences_are_arrows : DependencesAreArrows m v
   dependences_are_arrows run is skip_sp j i from to (inl by) at there =
       let edge = data_has_edges m v d.follows d.graph d.covers run is skip_sp by.0 j i by.1 in
-      inl (subst (λ n. EdgeTo v.graph skip_sp n to) (number_at run i from by.1.writer by.1.writer_is at)
-      (subst (λ n. EdgeTo v.graph skip_sp (number_of v by.1.writer.before) n) (number_at run j to by.1.reader by.1.reader_is there) edge))
+      inl (subst (λ n. FlowEdge v.graph skip_sp n to) (number_at run i from by.1.writer by.1.writer_is at)
+      (subst (λ n. FlowEdge v.graph skip_sp (number_of v by.1.writer.before) n) (number_at run j to by.1.reader by.1.reader_is there) edge))
   dependences_are_arrows run is skip_sp j i from to (inr control) at there =
       let controls = branches_control m v d.follows d.graph run is j i control in
       inr (subst (λ n. Controls v.graph n to) (number_at run i from control.branch control.branch_is at)
@@ -49,7 +50,7 @@ module _ (m : Machine) (v : Map) (d : Describes m v) where
 
   pub dependences_are_chains : DependencesAreChains m v
   dependences_are_chains run is skip_sp j i n later earlier there at chain =
-      chain_as (DirectDependence m skip_sp run) (λ to from. Arrow v.graph skip_sp from to) (StandsAtNumber m v run)
+      chain_as (DirectDependence m skip_sp run) (λ to from. FlowArrow v.graph skip_sp from to) (StandsAtNumber m v run)
       (λ k l number direct from.
       let source = source_of run skip_sp k l direct in
       let lands : StandsAtNumber m v run l (number_of v source.0.before) = record { occurrence = source.0; is_there = source.1; number_is = refl } in
@@ -60,12 +61,12 @@ module _ (m : Machine) (v : Map) (d : Describes m v) where
       (record { occurrence = earlier; is_there = at; number_is = refl })
 
   -- what has the sources of arrows has the source of a chain
-  pub chain_in : (skip_sp : Bool) (P : ℕ → Type 0) → ((from to : ℕ) → Arrow v.graph skip_sp from to → P to → P from) → (length n o : ℕ) → Chain (λ to from. Arrow v.graph skip_sp from to) length n o → P n → P o
+  pub chain_in : (skip_sp : Bool) (P : ℕ → Type 0) → ((from to : ℕ) → FlowArrow v.graph skip_sp from to → P to → P from) → (length n o : ℕ) → Chain (λ to from. FlowArrow v.graph skip_sp from to) length n o → P n → P o
   chain_in skip_sp P back zero n o chain has = back o n chain has
   chain_in skip_sp P back (suc length) n o chain has = chain_in skip_sp P back length chain.0 o chain.2 (back chain.0 n chain.1 has)
 
   -- The node of whatever an occurrence depends on is in each set that has the occurrence's node and the sources of arrows.
-  pub depends_in : (skip_sp : Bool) (P : ℕ → Type 0) → ((from to : ℕ) → Arrow v.graph skip_sp from to → P to → P from)
+  pub depends_in : (skip_sp : Bool) (P : ℕ → Type 0) → ((from to : ℕ) → FlowArrow v.graph skip_sp from to → P to → P from)
       → (run : List (OccurrenceOf m)) → IsRun m run → (j i : ℕ) (later earlier : OccurrenceOf m) → slice_get run j ≡ Some later → slice_get run i ≡ Some earlier
       → Depends m skip_sp run j i → P (number_of v later.before) → P (number_of v earlier.before)
   depends_in skip_sp P back run is j i later earlier there at depends has =
@@ -78,5 +79,5 @@ module _ (m : Machine) (v : Map) (d : Describes m v) where
   pub slices_list_dependences : SlicesListDependences m v
   slices_list_dependences skip_sp at addresses lists run is j i criterion source criterion_is here source_is depends =
       lists (stands_at source) (number_of v source.before) (stands_there run is i source source_is)
-      (depends_in skip_sp (InSlice v.graph skip_sp at) (λ from to arrow sliced. step arrow sliced) run is j i criterion source criterion_is source_is depends
+      (depends_in skip_sp (InSlice (FlowEdge v.graph skip_sp) v.graph at) (λ from to arrow sliced. step arrow sliced) run is j i criterion source criterion_is source_is depends
       (seed (subst (λ a. IsAt v.graph a (number_of v criterion.before)) here (stands_there run is j criterion criterion_is))))

@@ -3,13 +3,13 @@ use Rattle.std.proofs.Common.{◌≡◌, ⊎_elim, ℕ, zero, suc, ◌+◌, ◌-
 use Rattle.std.specs.Prelude.{◌≢◌, ◌&&◌, ◌==◌, not, nat_lt, Bool, true, false, Some, slice_get}
 use Rattle.std.proofs.lemmas.Bool.{cases_Bool, and_parts}
 use Rattle.flow_graph.specs.FlowGraph.{MayDefine, MustDefine, esp_place}
+use Rattle.slicer.specs.Slicer.{FlowEdge}
 use Rattle.ia32_semantics.specs.State.{State, Location, InRegister, InFlag, AtByte, is_location, esp}
 use Rattle.ia32_semantics.specs.Machine.{Machine}
 use Rattle.ia32_semantics.specs.Runs.{OccurrenceOf, IsRun}
 use Rattle.ia32_semantics.specs.Dependence.{DataDependence}
 use Rattle.slice_soundness.specs.Maps.{Map, number_of, IsPlaceOf}
 use Rattle.slice_soundness.specs.Premises.{GoesOn, IsGraphOf, IsLocation, Covers, Follows}
-use Rattle.slice_soundness.specs.Arrows.{EdgeTo}
 use Rattle.slice_soundness.specs.Laws.{between, numbers_of, DataHasEdges}
 use Rattle.slice_soundness.proofs.RunLemmas.{not_both, occurrence_at, neighbours, comes_at, goes_on_at}
 use Rattle.slice_soundness.proofs.WalkLemmas.{runs_walk, all_between}
@@ -96,7 +96,7 @@ module _ (m : Machine) (v : Map) (f : Follows m v) (g : IsGraphOf m v) (c : Cove
       let stays = keeps_place m v c o l defined.0 goes unwritten_here kept_here (kept_at k o after (omega arith) at) in
       not_both (m.writes o l) (c.always o l defined.0 goes (any_location skip_sp l location) kept_here stays must) unwritten_here
 
-  pub data_edge : EdgeTo v.graph skip_sp (number_of v d.writer.before) (number_of v d.reader.before)
+  pub data_edge : FlowEdge v.graph skip_sp (number_of v d.writer.before) (number_of v d.reader.before)
   data_edge =
       let comes = comes_at m v f run is j d.reader d.reader_is in
       let kept_here = kept_at j d.reader d.earlier (omega arith) d.reader_is in (

@@ -11,7 +11,8 @@ use Rattle.ia32_semantics.specs.Runs.{stands_at, IsRun, Goes}
 use Rattle.ia32_semantics.specs.Dependence.{Writes, Forgets, DataDependence, ControlDependence, ListsDependences}
 use Rattle.slice_soundness.specs.Premises.{IsClean, Describes}
 use Rattle.slice_soundness.specs.Tables.{value_in, number_in, IsKept, IsFlow}
-use Rattle.slice_soundness.specs.Arrows.{Arrow, InSlice, ListsSlice}
+use Rattle.slicer.specs.Slicer.{FlowEdge, InSlice}
+use Rattle.slice_soundness.specs.Arrows.{FlowArrow, ListsSlice}
 use Rattle.slice_soundness.specs.Example.{Act, calls, stops, stores, chooses, loads, returns, address_of, done, is_last, is_branch, machine, Known, outside, inside, same_known, rows, successors_at, uses_at, defines_at, example, table, start, made, run, other_run, listed, stored_at, HasDependences}
 use Rattle.slice_soundness.proofs.TableLemmas.{tables_are_clean, tables_have_graphs}
 use Rattle.slice_soundness.proofs.ArrowLemmas.{slices_list_dependences}
@@ -130,11 +131,11 @@ branch_from (suc (suc (suc (suc zero)))) is = (omega arith, omega arith)
 branch_from (suc (suc (suc (suc (suc zero))))) is = absurd (false≢true is)
 branch_from (suc (suc (suc (suc (suc (suc m)))))) is = absurd is
 
-arrow_from : (m n : ℕ) → Arrow example.graph true m n → (1 ≤ n) × (n ≤ 4) → (1 ≤ m) × (m ≤ 4)
+arrow_from : (m n : ℕ) → FlowArrow example.graph true m n → (1 ≤ n) × (n ≤ 4) → (1 ≤ m) × (m ≤ 4)
 arrow_from m n (inl edge) within = edge_from m n edge.0 within.0 within.1 (edge.1 refl) edge.2.defines edge.2.uses
 arrow_from m n (inr control) within = branch_from m control.branches
 
-sliced : (n : ℕ) → InSlice example.graph true 11 n → (1 ≤ n) × (n ≤ 4)
+sliced : (n : ℕ) → InSlice (FlowEdge example.graph true) example.graph 11 n → (1 ≤ n) × (n ≤ 4)
 sliced n (seed is) = let e = criterion_is n is in (omega arith, omega arith)
 sliced n (step {m = later} arrow rest) = arrow_from n later arrow (sliced later rest)
 

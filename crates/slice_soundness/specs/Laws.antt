@@ -17,7 +17,8 @@ use Rattle.slice_soundness.specs.Maps.{Map, IsNode, here, number_of}
 use Rattle.slice_soundness.specs.Premises.{MachineLaws, IsReady, GoesOn, IsClean, IsGraphOf, KeepsSlots}
 use Rattle.slice_soundness.specs.Located.{Spot, spot_of, MovesBytes}
 use Rattle.slice_soundness.specs.Tables.{Table, IsKept, is_closed, is_quiet, IsFlow}
-use Rattle.slice_soundness.specs.Arrows.{EdgeTo, Arrow, ListsSlice}
+use Rattle.slicer.specs.Slicer.{FlowEdge}
+use Rattle.slice_soundness.specs.Arrows.{FlowArrow, ListsSlice}
 
 -- what holds of each occurrence of each run
 abbrev pub OfOccurrences : (m : Machine) → (OccurrenceOf m → Type 0) → Type 0
@@ -87,7 +88,7 @@ RunsWalk m v =
 abbrev pub DataHasEdges : (m : Machine) → Map → Type 0
 DataHasEdges m v =
     (run : List (OccurrenceOf m)) → IsRun m run → (skip_sp : Bool) (location : Location) (j i : ℕ)
-    → (d : DataDependence m skip_sp run location j i) → EdgeTo v.graph skip_sp (number_of v d.writer.before) (number_of v d.reader.before)
+    → (d : DataDependence m skip_sp run location j i) → FlowEdge v.graph skip_sp (number_of v d.writer.before) (number_of v d.reader.before)
 
 -- From an occurrence of a complete run, where from it on none stands at an address, an end is reached round that address.
 abbrev pub CompleteRunsEscape : (m : Machine) → Map → Type 0
@@ -114,7 +115,7 @@ abbrev pub DependencesAreArrows : (m : Machine) → Map → Type 0
 DependencesAreArrows m v =
     (run : List (OccurrenceOf m)) → IsRun m run → (skip_sp : Bool) (j i from to : ℕ)
     → DirectDependence m skip_sp run j i → StandsAtNumber m v run i from → StandsAtNumber m v run j to
-    → Arrow v.graph skip_sp from to
+    → FlowArrow v.graph skip_sp from to
 
 -- A dependence through others is a chain of arrows, back from the one node to the other.
 abbrev pub DependencesAreChains : (m : Machine) → Map → Type 0
@@ -122,7 +123,7 @@ DependencesAreChains m v =
     (run : List (OccurrenceOf m)) → IsRun m run → (skip_sp : Bool) (j i n : ℕ) (later earlier : OccurrenceOf m)
     → slice_get run j ≡ Some later → slice_get run i ≡ Some earlier
     → Chain (DirectDependence m skip_sp run) n j i
-    → Chain (λ to from. Arrow v.graph skip_sp from to) n (number_of v later.before) (number_of v earlier.before)
+    → Chain (λ to from. FlowArrow v.graph skip_sp from to) n (number_of v later.before) (number_of v earlier.before)
 
 -- -- Dependences are listed
 
