@@ -6,3 +6,5 @@ pub mod StepLemmas
 pub mod BelowLemmas
 pub mod SameLemmas
 pub mod PlaceLemmas
+pub mod ChangeLemmas
+pub mod RebuiltLaws

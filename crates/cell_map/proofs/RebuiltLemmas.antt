@@ -71,11 +71,11 @@ pub rising_with : (c : Cell) (v : Values) (es : List CellValue) → AreRising es
 rising_with c Top es r = r
 rising_with c (Parts ps) es r = rising_inserted (record { cell = c; value = Parts ps }) es r
 
-known_with : (c : Cell) (v : Values) (es : List CellValue) → AreKnown es → AreKnown (with_value c v es)
+pub known_with : (c : Cell) (v : Values) (es : List CellValue) → AreKnown es → AreKnown (with_value c v es)
 known_with c Top es k = k
 known_with c (Parts ps) es k = known_inserted (record { cell = c; value = Parts ps }) es refl k
 
-with_value_is : (c d : Cell) (v : Values) (es : List CellValue) → (v ≡ Top → same_cell d c ≡ true → value_in c es ≡ Top) → value_in c (with_value d v es) ≡ cond (same_cell d c) v (value_in c es)
+pub with_value_is : (c d : Cell) (v : Values) (es : List CellValue) → (v ≡ Top → same_cell d c ≡ true → value_in c es ≡ Top) → value_in c (with_value d v es) ≡ cond (same_cell d c) v (value_in c es)
 with_value_is c d Top es h = cond_both (same_cell d c) Top (value_in c es) (λ w. value_in c es ≡ w) (λ same. h refl same) (λ _. refl)
 with_value_is c d (Parts ps) es h = inserted_value c (record { cell = d; value = Parts ps }) es
 

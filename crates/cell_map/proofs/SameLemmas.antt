@@ -1,13 +1,20 @@
 -- Lists that are the same by a test are equal, where the test tells equals; and the steps of a loop that compares them.
 use Rattle.std.proofs.Common.{◌≡◌, ℕ, suc, ◌+◌, ◌<◌, ◌≤◌, Bool, true, false, ◌&&◌, List, [], ◌∷◌, length, drop, get_or, refl, sym, ◌∙◌, ap, subst}
 use Rattle.std.proofs.lemmas.List.{drop_more, drop_all}
-use Rattle.std.proofs.lemmas.Bool.{and_parts, and_from}
-use Rattle.image_map.specs.Regions.{same_cell}
-use Rattle.image_map.proofs.OrderLaws.{same_cell-equal, same_cell-itself}
-use Rattle.vset.specs.Operations.{same_values}
+use Rattle.std.specs.Prelude.{◌==◌}
+use Rattle.std.specs.Cmp.{signed_Decides}
+use Rattle.std.specs.Ordering.{int_eq}
+use Rattle.std.proofs.lemmas.Bool.{and_parts, and_from, eqb-true, eq-eqb}
+use Rattle.image_map.specs.Regions.{same_cell, same_region}
+use Rattle.image_map.proofs.OrderLaws.{same_cell-equal, same_cell-itself, same_region-equal, same_region-itself}
+use Rattle.vset.specs.Operations.{same_interval, same_values}
+use Rattle.strided.specs.Interval.{Interval}
 use Rattle.vset.proofs.SameLemmas.{same_values-equal, equal-same_values}
 use Rattle.abs_semantics.specs.declared.parts.CellValue.{CellValue}
-use Rattle.cell_map.specs.Lists.{same_lists, same_entry}
+use Rattle.abs_semantics.specs.declared.parts.Known.{Known}
+use Rattle.abs_semantics.specs.declared.parts.Link.{Link}
+use Rattle.abs_semantics.specs.Joins.{same_flag, same_link}
+use Rattle.cell_map.specs.Lists.{same_lists, same_entry, same_whole, same_known}
 
 module _ {A : Type 0} (same : A → A → Bool) where
   pub same_lists-equal : ((x y : A) → same x y ≡ true → x ≡ y) → (xs ys : List A) → same_lists same xs ys ≡ true → xs ≡ ys
@@ -73,3 +80,52 @@ same_entry-equal x y e =
 
 pub same_entry-itself : (x : CellValue) → same_entry x x ≡ true
 same_entry-itself x = and_from _ _ (same_cell-itself x.cell) (equal-same_values x.value x.value refl)
+
+-- -- Intervals, links and known numbers
+
+pub same_interval-equal : (a b : Interval) → same_interval a b ≡ true → a ≡ b
+same_interval-equal a b e =
+    let outer = and_parts (a.stride == b.stride && int_eq a.lo b.lo) (int_eq a.hi b.hi) e in
+    let inner = and_parts (a.stride == b.stride) (int_eq a.lo b.lo) outer.0 in
+    let stride = eqb-true a.stride b.stride inner.0 in
+    let lo = (signed_Decides a.lo b.lo).0 inner.1 in
+    let hi = (signed_Decides a.hi b.hi).0 outer.1 in
+    λ i. record { stride = stride i; lo = lo i; hi = hi i }
+
+pub same_interval-itself : (a : Interval) → same_interval a a ≡ true
+same_interval-itself a = and_from _ _ (and_from _ _ (eq-eqb a.stride a.stride refl) ((signed_Decides a.lo a.lo).1 refl)) ((signed_Decides a.hi a.hi).1 refl)
+
+pub same_flag-equal : (s t : Bool) → same_flag s t ≡ true → s ≡ t
+same_flag-equal true true e = refl
+same_flag-equal true false e = sym e
+same_flag-equal false true e = e
+same_flag-equal false false e = refl
+
+pub same_flag-itself : (s : Bool) → same_flag s s ≡ true
+same_flag-itself true = refl
+same_flag-itself false = refl
+
+pub same_whole-equal : (l m : Link) → same_whole l m ≡ true → l ≡ m
+same_whole-equal l m e =
+    let all = and_parts (same_link l m) (same_interval l.off m.off) e in
+    let key = and_parts (l.child == m.child) (same_flag l.aged m.aged && l.parent == m.parent) all.0 in
+    let rest = and_parts (same_flag l.aged m.aged) (l.parent == m.parent) key.1 in
+    let child = eqb-true l.child m.child key.0 in
+    let aged = same_flag-equal l.aged m.aged rest.0 in
+    let parent = eqb-true l.parent m.parent rest.1 in
+    let off = same_interval-equal l.off m.off all.1 in
+    λ i. record { child = child i; aged = aged i; parent = parent i; off = off i }
+
+pub same_whole-itself : (l : Link) → same_whole l l ≡ true
+same_whole-itself l =
+    and_from _ _ (and_from _ _ (eq-eqb l.child l.child refl) (and_from _ _ (same_flag-itself l.aged) (eq-eqb l.parent l.parent refl))) (same_interval-itself l.off)
+
+pub same_known-equal : (k m : Known) → same_known k m ≡ true → k ≡ m
+same_known-equal k m e =
+    let both = and_parts (same_region k.region m.region) (k.number == m.number) e in
+    let region = same_region-equal k.region m.region both.0 in
+    let number = eqb-true k.number m.number both.1 in
+    λ i. record { region = region i; number = number i }
+
+pub same_known-itself : (k : Known) → same_known k k ≡ true
+same_known-itself k = and_from _ _ (same_region-itself k.region) (eq-eqb k.number k.number refl)

@@ -9,9 +9,11 @@ ghost use Rattle.cell_map.specs.Lists.{AreRising};
 ghost use Rattle.cell_map.specs.Merges.{value_of_both, first_value as first_value_spec, are_below as are_below_spec};
 
 use crate::below::are_below;
+use crate::change::{Change, change_all};
 use crate::merge::{merge, rest};
-use crate::place::{are_same, keep_known, place_of, put_entry};
+use crate::place::{keep_known, place_of, put_entry};
 use crate::regions::{Regions, Rule};
+use crate::same::are_same;
 use abs_semantics::CellValue;
 use image_map::Cell;
 use std::alloc::{AllocError, Global};
@@ -91,6 +93,15 @@ impl CellMap {
             return Ok(());
         }
         put_entry(&mut self.entries, CellValue { cell: *cell, value })
+    }
+
+    /// Gives each cell that is listed the value that a change gives it, in one pass.
+    pub fn change<C: Change>(&mut self, alloc: Global, change: &C) -> Result<(), AllocError>
+        ensures { OnOk result (self.new ≡ rebuilt (λ (c : Cell). C.given change.now c (value_in c self.old)) self.old) }
+    {
+        change_all(alloc, change, &mut self.entries)?;
+        keep_known(&mut self.entries);
+        Ok(())
     }
 
     /// Takes away the cells that may hold every value.

@@ -6,7 +6,7 @@ ghost use Rattle.image_map.specs.Regions.{cell_before};
 ghost use Rattle.abs_semantics.specs.declared.parts.CellValue.{CellValue};
 ghost use Rattle.abs_semantics.specs.States.{inserted};
 ghost use Rattle.abs_semantics.specs.Start.{is_top};
-ghost use Rattle.cell_map.specs.Lists.{AreRising, same_entry as same_entry_spec, same_lists};
+ghost use Rattle.cell_map.specs.Lists.{AreRising};
 
 use abs_semantics::CellValue;
 use image_map::Cell;
@@ -51,25 +51,4 @@ pub(crate) fn keep_known(es: &mut Vec<CellValue>)
     ensures { es.new.items ≡ filter (λ (e : CellValue). not (is_top e.value)) es.old.items }
 {
     es.retain(|e| is_known(e));
-}
-
-fn is_same_entry(x: &CellValue, y: &CellValue) -> bool
-    ensures { result ≡ same_entry_spec x.now y.now }
-{
-    x.cell == y.cell && x.value.equals(&y.value)
-}
-
-/// Whether two lists are the same.
-pub(crate) fn are_same(xs: &[CellValue], ys: &[CellValue]) -> bool
-    ensures { result ≡ same_lists same_entry_spec xs.now ys.now }
-{
-    if xs.len() != ys.len() {
-        return false;
-    }
-    for i in 0..xs.len() {
-        if !is_same_entry(&xs[i], &ys[i]) {
-            return false;
-        }
-    }
-    true
 }
