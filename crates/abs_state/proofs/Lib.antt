@@ -1,3 +1,9 @@
 pub mod PutLemmas
 pub mod FoldLemmas
 pub mod ViewLemmas
+pub mod FlagLemmas
+pub mod RegisterLemmas
+pub mod ReadLemmas
+pub mod WriteLemmas
+pub mod TouchLemmas
+pub mod EqualLemmas

@@ -1,3 +1,6 @@
 pub mod Puts
 pub mod Registers
 pub mod Views
+pub mod Reads
+pub mod Writes
+pub mod Same

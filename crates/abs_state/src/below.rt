@@ -12,11 +12,10 @@ ghost use Rattle.abs_state.specs.Registers.{register_in};
 ghost use Rattle.abs_state.specs.Views.{flag_in, seen};
 
 use crate::facts::is_fact_below;
-use crate::puts::is_same_link;
 use crate::registers::Registers;
 use crate::state::AbsState;
 use abs_semantics::{Known, Link};
-use cell_map::{has_number, known_number};
+use cell_map::{has_number, is_same_link, known_number};
 use ia32_types::{Flag, Reg};
 use vset::AbsFlags;
 
@@ -41,7 +40,7 @@ fn are_registers_below(a: &Registers, b: &Registers) -> bool
 
 /// Whether a flag may be so.
 #[tactic(auto, using(crate::proofs::ViewLemmas::flag_told))]
-fn allows(flags: &AbsFlags, flag: Flag, value: bool) -> bool
+pub(crate) fn allows(flags: &AbsFlags, flag: Flag, value: bool) -> bool
     ensures { result ≡ flag_in flags.now (flag_number flag) value }
 {
     if value {

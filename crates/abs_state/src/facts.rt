@@ -1,12 +1,10 @@
 //! What the flags were made of, in two states.
 
 ghost use Rattle.std.specs.Prelude.{◌≡◌};
-ghost use Rattle.std.specs.Ordering.{int_eq};
-ghost use Rattle.vset.specs.Operations.{same_interval};
 ghost use Rattle.abs_semantics.specs.Joins.{same_place, same_fact, fact_of as fact_of_spec};
 ghost use Rattle.abs_semantics.specs.Below.{is_fact_below as is_fact_below_spec};
 
-use strided::Si;
+use cell_map::is_same_interval;
 use vset::{CmpFact, CmpPlace};
 
 fn is_same_place(a: &CmpPlace, b: &CmpPlace) -> bool
@@ -19,22 +17,10 @@ fn is_same_place(a: &CmpPlace, b: &CmpPlace) -> bool
     }
 }
 
-fn is_same(a: i32, b: i32) -> bool
-    ensures { result ≡ int_eq a b }
-{
-    a == b
-}
-
-fn is_same_bound(a: &Si, b: &Si) -> bool
-    ensures { result ≡ same_interval a.now b.now }
-{
-    a.stride() == b.stride() && is_same(a.lo(), b.lo()) && is_same(a.hi(), b.hi())
-}
-
 pub(crate) fn is_same_fact(f: &CmpFact, g: &CmpFact) -> bool
     ensures { result ≡ same_fact f.now g.now }
 {
-    is_same_place(&f.place, &g.place) && is_same_bound(&f.bound, &g.bound)
+    is_same_place(&f.place, &g.place) && is_same_interval(&f.bound, &g.bound)
 }
 
 /// The fact of both, where they have the same.

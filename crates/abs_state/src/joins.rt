@@ -6,10 +6,10 @@ ghost use Rattle.abs_state.specs.Puts.{folded, known_by};
 ghost use Rattle.abs_state.specs.Views.{flag_in, seen};
 
 use crate::facts::fact_of;
-use crate::puts::{is_same_link, links, numbers, put_known, sizes};
+use crate::puts::{links, numbers, put_known, sizes};
 use crate::state::AbsState;
 use abs_semantics::{Known, Link};
-use cell_map::{Rule, known_number};
+use cell_map::{Rule, is_same_link, known_number};
 use image_map::RegionId;
 use item_list::Items;
 use std::alloc::{AllocError, Global};

@@ -3,11 +3,20 @@
 
 mod addresses;
 mod below;
+mod changes;
 mod facts;
 mod joins;
+mod parts;
 mod puts;
+mod reads;
 mod registers;
+mod same;
 mod state;
+mod touching;
+mod writes;
 
+pub use parts::{with_part, with_second_byte};
+pub use reads::{cell_at, read_as};
 pub use registers::Registers;
 pub use state::AbsState;
+pub use writes::Memory;

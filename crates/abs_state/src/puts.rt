@@ -8,7 +8,7 @@ ghost use Rattle.image_map.specs.Regions.{same_region, region_before};
 ghost use Rattle.abs_semantics.specs.Joins.{with_number, numbers_of, same_link, link_before, with_link, links_of, put_known as put_known_spec, with_size, sizes_of, lesser as lesser_spec};
 
 use abs_semantics::{Known, Link};
-use cell_map::known_number;
+use cell_map::{is_same_link, known_number};
 use image_map::RegionId;
 use std::alloc::{AllocError, Global};
 
@@ -126,12 +126,6 @@ pub(crate) fn sizes(alloc: Global, more: &[Known], into: &[Known]) -> Result<Vec
         rest = before;
     }
     Ok(out)
-}
-
-pub(crate) fn is_same_link(l: &Link, m: &Link) -> bool
-    ensures { result ≡ same_link l.now m.now }
-{
-    l.child == m.child && (l.aged == m.aged && l.parent == m.parent)
 }
 
 fn is_link_before(l: &Link, m: &Link) -> bool

@@ -2,12 +2,11 @@
 
 ghost use Rattle.std.specs.Prelude.{◌≡◌, ◌↔◌, slice_set, length, IfOk, IsTrue};
 ghost use Rattle.ia32_types.specs.Numbers.{reg_number};
+ghost use Rattle.ia32_semantics.specs.State.{put};
 ghost use Rattle.vset.specs.Values.{Values};
-ghost use Rattle.vset.specs.Operations.{same_values};
-ghost use Rattle.cell_map.specs.Lists.{same_lists};
 ghost use Rattle.abs_state.specs.Registers.{register_in, registers_of};
 
-use cell_map::of_both;
+use cell_map::{are_same, of_both};
 use ia32_types::Reg;
 use std::alloc::{AllocError, Global};
 use std::marker::Model;
@@ -31,6 +30,14 @@ impl Model for Registers {
 }
 
 impl Registers {
+    /// Eight values, in the order of the registers' numbers.
+    pub fn new(values: Vec<ValueSet>) -> Registers
+        requires { length values.items ≡ 8 }
+        ensures { result ≡ values.items }
+    {
+        Registers { values }
+    }
+
     /// The registers, of which there are eight.
     pub fn values(&self) -> &[ValueSet]
         ensures value { result.now ≡ self.now }
@@ -47,8 +54,10 @@ impl Registers {
     }
 
     /// Another value for a register.
+    #[tactic(auto, using(crate::proofs::RegisterLemmas::register_put))]
     pub fn set(&mut self, register: Reg, value: ValueSet)
-        ensures { self.new ≡ slice_set self.old (reg_number register) value }
+        ensures list { self.new ≡ slice_set self.old (reg_number register) value }
+        ensures values { register_in self.new ≡ put (register_in self.old) (reg_number register) value }
     {
         self.values[register.number() as usize] = value;
     }
@@ -68,7 +77,8 @@ impl Registers {
 
     /// Whether both are the same.
     pub fn equals(&self, other: &Registers) -> bool
-        ensures { IsTrue result ↔ (self.now ≡ other.now) }
+        ensures list { IsTrue result ↔ (self.now ≡ other.now) }
+        ensures values { IsTrue result ↔ (register_in self.now ≡ register_in other.now) }
     {
         are_same(self.values(), other.values())
     }
@@ -98,24 +108,4 @@ fn values_of(
         out.push(value)?;
     }
     Ok(out)
-}
-
-fn is_same_value(x: &ValueSet, y: &ValueSet) -> bool
-    ensures { result ≡ same_values x.now y.now }
-{
-    x.equals(y)
-}
-
-fn are_same(xs: &[ValueSet], ys: &[ValueSet]) -> bool
-    ensures { result ≡ same_lists same_values xs.now ys.now }
-{
-    if xs.len() != ys.len() {
-        return false;
-    }
-    for i in 0..xs.len() {
-        if !is_same_value(&xs[i], &ys[i]) {
-            return false;
-        }
-    }
-    true
 }

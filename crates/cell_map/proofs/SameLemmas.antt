@@ -9,7 +9,7 @@ use Rattle.image_map.specs.Regions.{same_cell, same_region}
 use Rattle.image_map.proofs.OrderLaws.{same_cell-equal, same_cell-itself, same_region-equal, same_region-itself}
 use Rattle.vset.specs.Operations.{same_interval, same_values}
 use Rattle.strided.specs.Interval.{Interval}
-use Rattle.vset.proofs.SameLemmas.{same_values-equal, equal-same_values}
+use Rattle.vset.proofs.SameLemmas.{same_interval-equal, same_values-equal, equal-same_values}
 use Rattle.abs_semantics.specs.declared.parts.CellValue.{CellValue}
 use Rattle.abs_semantics.specs.declared.parts.Known.{Known}
 use Rattle.abs_semantics.specs.declared.parts.Link.{Link}
@@ -82,15 +82,6 @@ pub same_entry-itself : (x : CellValue) → same_entry x x ≡ true
 same_entry-itself x = and_from _ _ (same_cell-itself x.cell) (equal-same_values x.value x.value refl)
 
 -- -- Intervals, links and known numbers
-
-pub same_interval-equal : (a b : Interval) → same_interval a b ≡ true → a ≡ b
-same_interval-equal a b e =
-    let outer = and_parts (a.stride == b.stride && int_eq a.lo b.lo) (int_eq a.hi b.hi) e in
-    let inner = and_parts (a.stride == b.stride) (int_eq a.lo b.lo) outer.0 in
-    let stride = eqb-true a.stride b.stride inner.0 in
-    let lo = (signed_Decides a.lo b.lo).0 inner.1 in
-    let hi = (signed_Decides a.hi b.hi).0 outer.1 in
-    λ i. record { stride = stride i; lo = lo i; hi = hi i }
 
 pub same_interval-itself : (a : Interval) → same_interval a a ≡ true
 same_interval-itself a = and_from _ _ (and_from _ _ (eq-eqb a.stride a.stride refl) ((signed_Decides a.lo a.lo).1 refl)) ((signed_Decides a.hi a.hi).1 refl)

@@ -1,0 +1,14 @@
+use Rattle.std.proofs.Common.{sym, ◌∙◌, ap}
+use Rattle.ia32_semantics.specs.Effects.{High}
+use Rattle.ia32_types.specs.Numbers.{reg_number}
+use Rattle.vset.specs.Values.{Values}
+use Rattle.abs_semantics.specs.Operands.{with_part_value}
+use Rattle.abs_state.specs.Views.{seen}
+use Rattle.abs_state.proofs.RegisterLemmas.{whole_is}
+use Rattle.abs_state.proofs.state.AbsState.put_second_byte.Goals as goal
+
+pub returns : goal.returns
+returns c =
+    c.put_register.ensures
+    ∙ whole_is (seen c.args.self.now) High (reg_number c.args.register) c.args.value.now c.with_second_byte-value.result
+    (c.with_second_byte-value.ensures ∙ ap (λ (u : Values). with_part_value High u c.args.value.now) c.value.ensures)
