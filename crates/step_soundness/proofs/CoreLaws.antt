@@ -33,7 +33,7 @@ module _ (lane : ℕ) (a : AbsState) (s : State) (stands : StandsFor lane a s) (
   owns_before (ActivationAt newer b older) x h = h
   owns_before (BlockAt before b later) x h = h
 
-  owns_after : (t : Thing) (x : ℕ) → Owns s t x → Owns after t x
+  pub owns_after : (t : Thing) (x : ℕ) → Owns s t x → Owns after t x
   owns_after TheImage x h = h
   owns_after (ActivationAt newer b older) x h = h
   owns_after (BlockAt before b later) x h = h
@@ -47,7 +47,7 @@ module _ (lane : ℕ) (a : AbsState) (s : State) (stands : StandsFor lane a s) (
       record { is_in = of.is_in; region = of.region; lies = record { start = of.lies.start; end = of.lies.end; owned = λ k lt. owns_after t (at + k) (of.lies.owned k lt) } }
 
   -- registers and flags that hold, and what is known of the last comparison
-  core_stands : (values : ℕ → Values) (may : MayBe) (fact : Option CmpFact) → ((n : ℕ) → n < 8 → HasValue lane (world_of s) (registers n) (values n))
+  pub core_stands : (values : ℕ → Values) (may : MayBe) (fact : Option CmpFact) → ((n : ℕ) → n < 8 → HasValue lane (world_of s) (registers n) (values n))
       → ((n : ℕ) → n < 6 → may n (flags n) ≡ true) → HoldsFact lane after fact
       → StandsFor lane (record a { registers = values; flags = may; fact = fact }) after
   core_stands values may fact held allowed true_ =

@@ -48,7 +48,7 @@ address_outcome m f s words =
         ≡ Some ((register_or_zero s o + register_or_zero s p * m.scale + m.disp) % 4294967296, words)
     given o p = one_register o _ ∙ one_register p _
 
-number_outcome : (n a : ℕ) (s : State) (words : List ℕ) → outcome (stored_number n a) s words ≡ option_map (λ bytes. (little_endian bytes, words)) (bytes_at s.memory a n)
+pub number_outcome : (n a : ℕ) (s : State) (words : List ℕ) → outcome (stored_number n a) s words ≡ option_map (λ bytes. (little_endian bytes, words)) (bytes_at s.memory a n)
 unfolding stored_number bytes_at little_endian
 number_outcome zero a s words = refl
 number_outcome (suc n) a s words = by (s.memory a) (bytes_at s.memory (a + 1) n) (number_outcome n (a + 1) s words)
@@ -79,7 +79,7 @@ module _ (image : Image) (lane : ℕ) (a : AbsState) (p : ℕ) (s : State) (d : 
   pub registers_hold : RegistersHold lane (world_of s) a s
   registers_hold = record { held = known_.stands.registers; form = form.registers; sized = known_.whole.laid_out.sized.registers }
 
-  number_below : (width : Width) (at : ℕ) (bytes : List ℕ) → bytes_at s.memory at (size width) ≡ Some bytes → little_endian bytes < 2 ^ bits width
+  pub number_below : (width : Width) (at : ℕ) (bytes : List ℕ) → bytes_at s.memory at (size width) ≡ Some bytes → little_endian bytes < 2 ^ bits width
   number_below B8 at bytes e = let b = below_bytes s.memory known_.whole.laid_out.sized.memory at 1 bytes e in omega (arith, b, numbers_1)
   number_below W16 at bytes e = let b = below_bytes s.memory known_.whole.laid_out.sized.memory at 2 bytes e in omega (arith, b, numbers_2)
   number_below D32 at bytes e = let b = below_bytes s.memory known_.whole.laid_out.sized.memory at 4 bytes e in omega (arith, b, numbers_4)

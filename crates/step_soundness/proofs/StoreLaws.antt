@@ -14,14 +14,15 @@ use Rattle.vset.specs.Values.{Values, CanonicalValues}
 use Rattle.vset.specs.Members.{HasValue}
 use Rattle.abs_semantics.specs.States.{AbsState, HasCanonical}
 use Rattle.abs_semantics.specs.StandsFor.{StandsFor, world_of}
-use Rattle.abs_semantics.specs.Ownership.{IsKnown}
+use Rattle.abs_semantics.specs.Ownership.{IsKnown, IsRange}
+use Rattle.abs_semantics.specs.Stores.{IsStored}
 use Rattle.abs_semantics.proofs.StoreLemmas.{same_bytes}
 use Rattle.abs_semantics.proofs.RangeLemmas.{numbers_of, numbers_1, numbers_2, numbers_4}
 use Rattle.abs_semantics.proofs.WriteLemmas.{written_stands}
 use Rattle.abs_steps.specs.Effects.{saves, done}
 
 -- the bytes of a number lie from an address on, and nowhere else
-outside : (k at v y : ℕ) → (y < at) ⊎ (at + k ≤ y) → is_of_bytes at (number_bytes k v) y ≡ false
+pub outside : (k at v y : ℕ) → (y < at) ⊎ (at + k ≤ y) → is_of_bytes at (number_bytes k v) y ≡ false
 outside zero at v y h = refl
 outside (suc k) at v y h = by (at == y) refl (outside k (at + 1) (v / 256) y (further h))
   where
@@ -74,7 +75,7 @@ each_passes test (suc k) at v h (suc j) lt =
     let same : at + 1 + j ≡ at + suc j = omega arith in
     subst (λ x. test x ≡ true) same (each_passes test k (at + 1) (v / 256) (and_parts (test at) (all_of_bytes test (at + 1) (number_bytes k (v / 256))) h).1 j (omega (arith, lt)))
 
-some_size : (width : Width) → 1 ≤ size width
+pub some_size : (width : Width) → 1 ≤ size width
 some_size B8 = omega arith
 some_size W16 = omega arith
 some_size D32 = omega arith
@@ -84,15 +85,24 @@ fits_size B8 n lt = omega (arith, lt, numbers_1)
 fits_size W16 n lt = omega (arith, lt, numbers_2)
 fits_size D32 n lt = omega (arith, lt, numbers_4)
 
+-- the bytes of a number that fits at an address that a value has
+pub saved_range : (image : Image) (lane : ℕ) (s : State) (width : Width) (at n : ℕ) (v : Values) → at < 4294967296 → HasValue lane (world_of s) at v
+    → effect_fits image s.memory (stores at (number_bytes (size width) n)) ≡ true → IsRange lane s v at (size width) (size width)
+saved_range image lane s width at n v word has fits =
+    record { word = word; member = has; some = some_size width; within = omega arith; mapped = λ j lt. (and_parts _ _ (each_passes (is_open image s.memory) (size width) at n fits j lt)).0 }
+
+pub saved_bytes : (image : Image) (s : State) (width : Width) (at n : ℕ) → effect_fits image s.memory (stores at (number_bytes (size width) n)) ≡ true
+    → IsStored image s at (size width) (overwritten s.memory at (number_bytes (size width) n))
+saved_bytes image s width at n fits =
+    record { are_open = each_passes (is_open image s.memory) (size width) at n fits; others = λ y h. overwritten_other s.memory at (number_bytes (size width) n) y (outside (size width) at n y h) }
+
 module _ (image : Image) (lane : ℕ) (a : AbsState) (p : ℕ) (s : State) (d : Division) (known_ : IsKnown image lane a p s) (form : HasCanonical a) where
   pub saves_stand : (width : Width) (at n : ℕ) (v w : Values) → CanonicalValues v → CanonicalValues w → at < 4294967296 → n < 2 ^ bits width → HasValue lane (world_of s) at v → HasValue lane (world_of s) n w
       → effect_fits image s.memory (stores at (number_bytes (size width) n)) ≡ true
       → StandsFor lane (done d image p (saves v (size width) w) a) (changed (stores at (number_bytes (size width) n)) s)
   saves_stand width at n v w fv fw word small has held fits =
       written_stands image lane a p s d v at (size width) w (overwritten s.memory at (number_bytes (size width) n)) known_ form fv fw
-      (record { word = word; member = has; some = some_size width; within = omega arith; mapped = λ j lt. (and_parts _ _ (each_passes (is_open image s.memory) (size width) at n fits j lt)).0 })
-      (record { are_open = each_passes (is_open image s.memory) (size width) at n fits; others = λ y h. overwritten_other s.memory at (number_bytes (size width) n) y (outside (size width) at n y h) })
-      number
+      (saved_range image lane s width at n v word has fits) (saved_bytes image s width at n fits) number
     where
       number : (bytes : List ℕ) → bytes_at (overwritten s.memory at (number_bytes (size width) n)) at (size width) ≡ Some bytes → HasValue lane (world_of s) (little_endian bytes) w
       number bytes e =

@@ -2,6 +2,7 @@
 -- flags stands for the machine's state after the same change. The laws are the project's own.
 use Rattle.std.specs.Prelude.{◌≡◌, ℕ, ◌+◌, ◌-◌, ◌/◌, ◌%◌, ◌^◌, ◌<◌, ◌≤◌, Bool, true, false, if◌then◌else◌, List, Some}
 use Rattle.image_map.specs.declared.image.Image.{Image}
+use Rattle.ia32_types.specs.declared.Instr.{Instr}
 use Rattle.ia32_types.specs.declared.Mem.{Mem}
 use Rattle.ia32_types.specs.declared.Operand.{Operand}
 use Rattle.ia32_types.specs.declared.Width.{Width}
@@ -13,7 +14,9 @@ use Rattle.ia32_semantics.specs.Effects.{Part, Effect, sets, turns as turns_flag
 use Rattle.ia32_semantics.specs.Operands.{bits, size, low_part, number_bytes, value, store as machine_store}
 use Rattle.ia32_semantics.specs.Reading.{outcome}
 use Rattle.ia32_semantics.specs.Product.{extended}
+use Rattle.ia32_semantics.specs.Machine.{Occurrence}
 use Rattle.ia32_semantics.specs.State.{State}
+use Rattle.ia32_semantics.specs.Step.{Act}
 use Rattle.ia32_semantics.specs.Strings.{stepped as steps}
 use Rattle.si_bits.specs.Concrete as concrete
 use Rattle.strided.specs.Interval.{Interval, IsMember, IsCanonical}
@@ -34,6 +37,7 @@ use Rattle.abs_steps.specs.Results.{chosen_by, sign_of, truth_of, widened}
 use Rattle.abs_steps.specs.Rows.{pushed_at, risen, view_of}
 use Rattle.abs_steps.specs.Views.{store}
 use Rattle.abs_steps.specs.Strings.{grown, stepped}
+use Rattle.step_soundness.specs.Steps.{is_plain, IsExecuted, Advances, KeepsToAccesses}
 use Rattle.step_soundness.specs.Terms.{IsPart, IsOperand, AreAllowed, RegistersHold, address_in}
 
 -- -- Values
@@ -159,3 +163,14 @@ StoredOperandsStand =
     → IsKnown image lane a p s → HasCanonical a → IsTarget width o → IsOperand o → n < 2 ^ bits width → CanonicalValues w → HasValue lane (world_of s) n w
     → outcome (machine_store width o n) s words ≡ Some (effects, rest) → effects_fit image s.memory effects ≡ true
     → StandsFor lane (all_done d image p (store (view_of a d p) width o w) a) (all_changed effects s)
+
+-- -- Instructions
+
+-- moves, arithmetic and the stack: what they leave, and which bytes they read and write
+abbrev pub PlainStepsAdvance : Type 0
+PlainStepsAdvance =
+    (image : Image) (lane : ℕ) (a : AbsState) (p : ℕ) (d : Division) (i : Instr) (o : Occurrence Act) → IsExecuted image lane a p d i o → is_plain i.op ≡ true → Advances image lane a p d i o
+
+abbrev pub PlainStepsKeepToAccesses : Type 0
+PlainStepsKeepToAccesses =
+    (image : Image) (lane : ℕ) (a : AbsState) (p : ℕ) (d : Division) (i : Instr) (o : Occurrence Act) → IsExecuted image lane a p d i o → is_plain i.op ≡ true → KeepsToAccesses lane a i o

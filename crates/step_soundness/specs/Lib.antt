@@ -1,2 +1,4 @@
 pub mod Terms
+pub mod Accessed
+pub mod Steps
 pub mod Laws

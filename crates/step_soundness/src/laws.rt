@@ -1,6 +1,6 @@
 //! Laws of the definitions.
 
-ghost use Rattle.step_soundness.specs.Laws.{LowPartsAreHeld, SecondBytesAreHeld, WrittenPartsAreHeld, ExtensionsAreHeld, SignsAreHeld, ConditionsMayHold, TruthsAreHeld, ChoicesAreHeld, PushedPointersAreHeld, RisenPointersAreHeld, SteppedPointersAreHeld, GrownPointersAreHeld, AddressesAreHeld, OperandsAreHeld, WrittenRegistersStand, WrittenFlagsStand, FreedFlagsStand, WrittenDirectionsStand, LearnedFactsStand, SavedValuesStand, StoredOperandsStand};
+ghost use Rattle.step_soundness.specs.Laws.{LowPartsAreHeld, SecondBytesAreHeld, WrittenPartsAreHeld, ExtensionsAreHeld, SignsAreHeld, ConditionsMayHold, TruthsAreHeld, ChoicesAreHeld, PushedPointersAreHeld, RisenPointersAreHeld, SteppedPointersAreHeld, GrownPointersAreHeld, AddressesAreHeld, OperandsAreHeld, WrittenRegistersStand, WrittenFlagsStand, FreedFlagsStand, WrittenDirectionsStand, LearnedFactsStand, SavedValuesStand, StoredOperandsStand, PlainStepsAdvance, PlainStepsKeepToAccesses};
 
 /// The low part of a word that a value-set has is one of its low parts.
 pub fn low_parts_are_held()
@@ -105,4 +105,15 @@ pub fn saved_values_stand()
 /// The same where a number has been stored into an operand, as the machine stores it: a register, a part of one, or memory.
 pub fn stored_operands_stand()
     ensures { StoredOperandsStand }
+{}
+
+/// After an instruction of moves, arithmetic or the stack at which no warning stands, the next one follows in the same activation, all lies as it should,
+/// and the abstract state after the instruction stands for the state.
+pub fn plain_steps_advance()
+    ensures { PlainStepsAdvance }
+{}
+
+/// Each byte that such an instruction reads or writes lies in one of its accesses.
+pub fn plain_steps_keep_to_accesses()
+    ensures { PlainStepsKeepToAccesses }
 {}
