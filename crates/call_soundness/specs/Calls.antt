@@ -1,0 +1,18 @@
+-- What a call leaves as it was and what it changes, in the words of the laws on abstract calls. The project's own.
+use Rattle.std.specs.Prelude.{◌≡◌, ℕ, ◌+◌, ◌<◌, ◌≤◌, ◌==◌, Bool, true, false, List, [], ◌∷◌, Some}
+use Rattle.image_map.specs.declared.region.Activation.{Activation}
+use Rattle.ia32_semantics.specs.Outcome.{is_in_stack}
+use Rattle.ia32_semantics.specs.State.{State, word_at}
+
+-- From state s a call begins an activation, whose return slot holds the place after the call; ESP points to the slot. Of the bytes of the
+-- stack those below the end of the slot may be any but for the slot; nothing else changes.
+pub record IsCalled (s t : State) (new newest : Activation) (others : List Activation) (next : ℕ) : Type 0 where
+  pub before : s.activations ≡ newest ∷ others
+  pub activations : t.activations ≡ new ∷ s.activations
+  pub allocs : t.allocs ≡ s.allocs
+  pub slot : t.slot ≡ s.slot
+  pub flags : t.flags ≡ s.flags
+  pub registers : (n : ℕ) → (4 == n) ≡ false → t.registers n ≡ s.registers n
+  pub esp : t.registers 4 ≡ new.base
+  pub word : word_at t.memory new.base ≡ Some next
+  pub bytes : (y : ℕ) → (is_in_stack s.slot y ≡ true → new.base + 4 ≤ y) → t.memory y ≡ s.memory y

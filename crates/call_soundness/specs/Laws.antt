@@ -1,0 +1,57 @@
+-- That each step from a state that a map knows is one of the map's. The laws are the project's own.
+use Rattle.std.specs.Prelude.{◌≡◌, ℕ, ◌^◌, ◌<◌, Bool, true, false, ℤ, pos, ◌+ℤ◌, List}
+use Rattle.image_map.specs.declared.image.Image.{Image}
+use Rattle.image_map.specs.declared.region.Kind.{Kind}
+use Rattle.image_map.specs.declared.region.Settings.{Settings}
+use Rattle.image_map.specs.Whole.{IsImage}
+use Rattle.image_map.specs.declared.region.Activation.{Activation}
+use Rattle.ia32_types.specs.declared.Instr.{Instr}
+use Rattle.ia32_types.specs.declared.Op.{Op}
+use Rattle.ia32_types.specs.declared.Op.TheVariants as op
+use Rattle.ia32_semantics.specs.CallModel.{IsLaidOut, IsWhole}
+use Rattle.ia32_semantics.specs.Fetch.{IsFetched}
+use Rattle.ia32_semantics.specs.Ia32.{machine}
+use Rattle.ia32_semantics.specs.Machine.{Occurrence}
+use Rattle.ia32_semantics.specs.State.{State}
+use Rattle.ia32_semantics.specs.Step.{Act, Executes, IsExternAt}
+use Rattle.alocs.specs.Cells.{Division}
+use Rattle.abs_semantics.specs.States.{AbsState, HasCanonical}
+use Rattle.abs_semantics.specs.StandsFor.{StandsFor}
+use Rattle.abs_steps.specs.Calls.{called}
+use Rattle.abs_steps.specs.Places.{Content, Instruction, Extern, content_at}
+use Rattle.abs_steps.specs.Successors.{States}
+use Rattle.slice_soundness.specs.Premises.{GoesOn, Stays}
+use Rattle.step_soundness.specs.Steps.{is_plain}
+use Rattle.call_soundness.specs.Calls.{IsCalled}
+use Rattle.call_soundness.specs.Maps.{Drawn, map_of}
+
+-- an instruction that is fetched at an address is what stands there
+abbrev pub FetchedInstructionsStand : Type 0
+FetchedInstructionsStand =
+    (image : Image) (settings : Settings) (a : ℕ) (i : Instr) → IsImage image → IsFetched image a i → content_at image settings a ≡ Instruction i
+
+-- and so is an extern
+abbrev pub ExternsStand : Type 0
+ExternsStand = (image : Image) (settings : Settings) (a : ℕ) (k : Kind) → IsExternAt image settings a k → content_at image settings a ≡ Extern k
+
+-- an instruction after which control stays in its context: a plain one, a jump or a branch
+abbrev pub is_staying : Op → Bool
+is_staying op.Jmp = true
+is_staying (op.Jcc c) = true
+is_staying o = is_plain o
+
+-- From a state that the map knows such an instruction goes to a successor of its node, whose abstract state stands for the state after it;
+-- and that state is whole.
+abbrev pub StayingStepsAreRows : Type 0
+StayingStepsAreRows =
+    (image : Image) (settings : Settings) (states : States) (drawn : Drawn) (o : Occurrence Act) (i : Instr) → IsImage image
+    → GoesOn (machine image settings) (map_of image settings states drawn) o → o.act ≡ Executes i → is_staying i.op ≡ true
+    → Stays (machine image settings) (map_of image settings states drawn) o × IsWhole image o.after
+
+-- After a call the abstract state after it stands for the state: at a node of procedure p, where the return slot lies so far from the base
+-- of p's newest activation.
+abbrev pub CalledStatesStand : Type 0
+CalledStatesStand =
+    (image : Image) (lane : ℕ) (a : AbsState) (d : Division) (s t : State) (new newest : Activation) (others : List Activation) (next : ℕ) (offset : ℤ)
+    → IsImage image → IsLaidOut image s → HasCanonical a → StandsFor lane a s → IsCalled s t new newest others next
+    → pos new.base ≡ pos newest.base +ℤ offset → next < 2 ^ 32 → StandsFor lane (called d newest.callee offset new.callee next a) t
