@@ -1,1 +1,2 @@
 pub mod FetchLaws
+pub mod OneBegins

@@ -1,6 +1,6 @@
 mod CoreLemmas
 pub mod FitLemmas
-mod WordLemmas
+pub mod WordLemmas
 pub mod StepLemmas
 mod StartLemmas
 mod BlockLemmas
@@ -10,7 +10,7 @@ mod SureLemmas
 mod SureRowLemmas
 mod SureFlagLemmas
 mod TouchLemmas
-mod SpanLemmas
+pub mod SpanLemmas
 mod EntryLemmas
-mod PlaceLemmas
+pub mod PlaceLemmas
 mod ToldLemmas

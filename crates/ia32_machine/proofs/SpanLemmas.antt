@@ -41,7 +41,7 @@ filled_take down z value (suc n) to x = filled_take down z value n (stepped down
 
 -- -- Spans
 
-here_or : (a e x : ℕ) → a < e → (a == x || within (a + 1) e x) ≡ within a e x
+pub here_or : (a e x : ℕ) → a < e → (a == x || within (a + 1) e x) ≡ within a e x
 here_or a e x some =
     by_test (a == x)
     (λ same. let is : a ≡ x = eqb-true a x same in let there : within a e x ≡ true = grind (arith, nat_tests) in rw (same, there) refl)
@@ -56,7 +56,7 @@ among_within a (suc n) x =
     let more : a + 1 + n ≡ a + suc n = omega arith in
     ap (λ b. a == x || b) (among_within (a + 1) n x ∙ ap (λ e. within (a + 1) e x) more) ∙ here_or a (a + suc n) x (omega arith)
 
-joined : (a b e x : ℕ) → a ≤ b → b ≤ e → (within a b x || within b e x) ≡ within a e x
+pub joined : (a b e x : ℕ) → a ≤ b → b ≤ e → (within a b x || within b e x) ≡ within a e x
 joined a b e x p q =
     by_test (within a e x)
     (λ there. by_test (nat_lt x b)

@@ -1,12 +1,16 @@
 -- The machine in which a run starts.
 use Rattle.std.proofs.Common.{◌≡◌, ℕ, ◌+◌, ◌<◌, ◌≤◌, ◌^◌, List, [], ◌∷◌, refl, sym, ap, subst, ◌∙◌, arith}
-use Rattle.std.specs.Prelude.{Bool, true, false, not, ◌&&◌, ◌||◌, ◌==◌, Some, is_some, option_map}
+use Rattle.std.specs.Prelude.{Bool, true, false, if◌then◌else◌, not, ◌&&◌, ◌||◌, ◌==◌, slice_index, Some, is_some, option_map}
 use Rattle.std.proofs.lemmas.Bool.Decides.{nat_tests}
 use Rattle.std.proofs.lemmas.Bool.{or_right}
+use mathlib.Core.Path.{fun_ext}
 use Rattle.image_map.specs.declared.image.Image.{Image}
+use Rattle.image_map.specs.declared.region.Activation.{Activation}
+use Rattle.image_map.specs.declared.region.Block.{Block}
 use Rattle.image_map.specs.declared.region.Settings.{Settings}
 use Rattle.image_map.specs.Queries.{is_in_segment, is_writable}
 use Rattle.image_map.specs.Whole.{IsImage}
+use Rattle.ia32_semantics.specs.declared.state.Allocation.{Allocation}
 use Rattle.ia32_semantics.specs.State.{State, Bytes, word_at, little_endian}
 use Rattle.ia32_semantics.specs.Effects.{is_open, is_of_bytes}
 use Rattle.ia32_semantics.specs.Outcome.{is_in_stack, IsFarFrom}
@@ -19,7 +23,12 @@ use Rattle.ia32_memory.proofs.WrittenLaws.{with_bytes_maps, with_bytes_other, wi
 use Rattle.ia32_memory.proofs.StartLaws.{start_mapped, start_known, start_apart, segment_low}
 use Rattle.image_map.proofs.SegmentLaws.{known_there}
 use Rattle.image_map.specs.Shapes.{shapes}
-use Rattle.ia32_machine.specs.Machines.{IsStartMemory}
+use Rattle.ia32_plan.specs.declared.state.Core.{Core}
+use Rattle.ia32_plan.specs.Views.{flag_at}
+use Rattle.ia32_plan.specs.Views as views
+use Rattle.ia32_machine.proofs.StepLemmas.{with_calls}
+use Rattle.ia32_machine.specs.Machines as machines
+use Rattle.ia32_machine.specs.Machines.{IsStartMemory, HasWords, start_flag, start_registers, start_state}
 
 pub entry_slot : IsEntrySlot 0xBFF0000C
 entry_slot = record { aligned = refl; above = omega arith; below = omega arith }
@@ -59,6 +68,7 @@ start_memory image old new whole is opened stack small write same =
     let at : (a : ℕ) → bytes_of new a ≡ with_bytes (bytes_of old) 0xBFF0000C (0 ∷ 0 ∷ 255 ∷ 255 ∷ []) a = λ a. ap (λ (f : Bytes). f a) write in
     let maps : (a : ℕ) → is_some (bytes_of new a) ≡ is_some (bytes_of old a) = λ a. ap is_some (at a) ∙ with_bytes_maps (bytes_of old) 0xBFF0000C (0 ∷ 0 ∷ 255 ∷ 255 ∷ []) a in
     record {
+      is = write ∙ ap (λ (f : Bytes). with_bytes f 0xBFF0000C (0 ∷ 0 ∷ 255 ∷ 255 ∷ [])) is;
       bytes = λ a byte e. with_bytes_small (bytes_of old) 0xBFF0000C (0 ∷ 0 ∷ 255 ∷ 255 ∷ []) small a byte (sym (at a) ∙ e);
       halt = ap (λ (f : Bytes). word_at f 0xBFF0000C) write ∙ halt_read image 0xBFF0000C (bytes_of old) is;
       mapped = λ a. maps a ∙ ap (λ (f : Bytes). is_some (f a)) is ∙ start_mapped image 0xBFF0000C a;
@@ -94,3 +104,36 @@ is_start image settings s memory whole starts is small fits eip df slot sp activ
       blocks = blocks;
       allocs = allocs;
     }
+
+flags_go : (b0 b1 b2 b3 b4 b5 : Bool) (c0 c1 c2 c3 c4 c5 d0 d1 d2 d3 d4 : Bool) → c0 ≡ d0 → c1 ≡ d1 → c2 ≡ d2 → c3 ≡ d3 → c4 ≡ d4 → c5 ≡ false
+    → (if b0 then c0 else (if b1 then c1 else (if b2 then c2 else (if b3 then c3 else (if b4 then c4 else (if b5 then c5 else false))))))
+    ≡ (if b0 then d0 else (if b1 then d1 else (if b2 then d2 else (if b3 then d3 else (if b4 then d4 else false)))))
+flags_go true b1 b2 b3 b4 b5 c0 c1 c2 c3 c4 c5 d0 d1 d2 d3 d4 e0 e1 e2 e3 e4 e5 = e0
+flags_go false true b2 b3 b4 b5 c0 c1 c2 c3 c4 c5 d0 d1 d2 d3 d4 e0 e1 e2 e3 e4 e5 = e1
+flags_go false false true b3 b4 b5 c0 c1 c2 c3 c4 c5 d0 d1 d2 d3 d4 e0 e1 e2 e3 e4 e5 = e2
+flags_go false false false true b4 b5 c0 c1 c2 c3 c4 c5 d0 d1 d2 d3 d4 e0 e1 e2 e3 e4 e5 = e3
+flags_go false false false false true b5 c0 c1 c2 c3 c4 c5 d0 d1 d2 d3 d4 e0 e1 e2 e3 e4 e5 = e4
+flags_go false false false false false true c0 c1 c2 c3 c4 c5 d0 d1 d2 d3 d4 e0 e1 e2 e3 e4 e5 = e5
+flags_go false false false false false false c0 c1 c2 c3 c4 c5 d0 d1 d2 d3 d4 e0 e1 e2 e3 e4 e5 = refl
+
+flags_are : (core : Core) (words : List ℕ) → HasWords words core → core.df ≡ false → flag_at core ≡ start_flag words
+flags_are core words has df =
+    fun_ext (λ n. flags_go (n == 0) (n == 1) (n == 2) (n == 3) (n == 4) (n == 5) core.flags.cf core.flags.pf core.flags.zf core.flags.sf core.flags.of core.df
+    (start_flag words 0) (start_flag words 1) (start_flag words 2) (start_flag words 3) (start_flag words 4) has.cf has.pf has.zf has.sf has.of df)
+
+same_state : (registers registers_ : ℕ → ℕ) (flags flags_ : ℕ → Bool) (eip eip_ : ℕ) (memory memory_ : Bytes) (activations activations_ : List Activation)
+    (blocks blocks_ : List Block) (allocs allocs_ : List Allocation) (slot : ℕ)
+    → registers ≡ registers_ → flags ≡ flags_ → eip ≡ eip_ → memory ≡ memory_ → activations ≡ activations_ → blocks ≡ blocks_ → allocs ≡ allocs_
+    → ◌≡◌ {A = State} (record { registers = registers; flags = flags; eip = eip; memory = memory; activations = activations; blocks = blocks; allocs = allocs; slot = slot })
+    (record { registers = registers_; flags = flags_; eip = eip_; memory = memory_; activations = activations_; blocks = blocks_; allocs = allocs_; slot = slot })
+same_state registers registers_ flags flags_ eip eip_ memory memory_ activations activations_ blocks blocks_ allocs allocs_ slot r f e m a b l = cc
+
+-- the machine's state is the one in which the run starts
+pub is_start_state : (image : Image) (settings : Settings) (words : List ℕ) (core : Core) (memory : Mapped) (activations : List Activation) (blocks : List Block) (allocs : List Allocation)
+    → HasWords words core → core.eip ≡ settings.entry → core.df ≡ false → core.memory ≡ memory → IsStartMemory image memory
+    → activations ≡ entry_activation settings 0xBFF0000C ∷ [] → blocks ≡ [] → allocs ≡ []
+    → with_calls (views.state_of core) activations blocks allocs 0xBFF0000C ≡ start_state image settings words
+is_start_state image settings words core memory activations blocks allocs has eip df same starts calls none none_ =
+    same_state (slice_index core.regs) (slice_index (start_registers words)) (flag_at core) (start_flag words) core.eip settings.entry (bytes_of core.memory) (machines.start_memory image)
+    activations (entry_activation settings 0xBFF0000C ∷ []) blocks [] allocs [] 0xBFF0000C
+    (ap (λ (l : List ℕ). slice_index l) has.registers) (flags_are core words has df) eip (ap (λ (m : Mapped). bytes_of m) same ∙ starts.is) calls none none_

@@ -7,7 +7,7 @@ ghost use Rattle.ia32_semantics.specs.Operands.{is_set as is_set_spec};
 ghost use Rattle.ia32_semantics.specs.Outcome.{IsBlock};
 ghost use Rattle.ia32_semantics.specs.CallModel.{IsStart};
 ghost use Rattle.ia32_memory.specs.Mapped.{is_in_first};
-ghost use Rattle.ia32_machine.specs.Machines.{state_of, RunsImage, HasWords, IsStartMemory, with_new_block};
+ghost use Rattle.ia32_machine.specs.Machines.{state_of, start_state, RunsImage, HasWords, IsStartMemory, with_new_block};
 ghost use Rattle.ia32_machine.specs.Opens.{KnowsOpen};
 
 use ia32_memory::Memory;
@@ -95,9 +95,9 @@ impl Machine {
         words: &[u32; 12],
     ) -> Result<Machine, AllocError>
         requires { IsImage image.now }
+        ensures state { IfOk result (λ m. state_of m ≡ start_state image.now settings.now words.now) }
         ensures start { IfOk result (λ m. IsStart image.now settings.now (state_of m)) }
         ensures runs { IfOk result (λ m. RunsImage image.now m) }
-        ensures words { IfOk result (λ m. HasWords words.now m.core) }
     {
         let memory = start_memory(alloc, image)?;
         let mut frames = Vec::new(alloc);

@@ -9,3 +9,4 @@ mod ClearLemmas
 mod MakeLemmas
 mod StartLemmas
 mod ElementLemmas
+mod SpanLemmas

@@ -2,6 +2,7 @@
 -- project's own.
 use Rattle.std.specs.Prelude.{◌≡◌, ℕ, ◌+◌, ◌<◌, ◌≤◌, ◌^◌, ◌-◌, ◌*◌, min, Bool, false, List, [], ◌∷◌, Option, Some, None, length, get_or, option_map, replicate}
 use Rattle.image_map.specs.declared.image.Segment.{Segment}
+use Rattle.image_map.specs.declared.spans.Span.{Span}
 use Rattle.image_map.specs.Memory.{holds, byte_in, is_in}
 use Rattle.image_map.specs.Whole.{end_of}
 use Rattle.ia32_semantics.specs.State.{Bytes, bytes_at, little_endian}
@@ -62,6 +63,10 @@ IsClear count (stack ∷ others) = (k : ℕ) → k < count → get_or stack.byte
 abbrev pub AreWithin : Mapped → Type 0
 AreWithin [] = Unit {0}
 AreWithin (s ∷ ss) = (end_of s ≤ 2 ^ 32) × AreWithin ss
+
+-- the addresses of a segment's bytes, but for the last of all addresses
+abbrev pub span_of : Segment → Span
+span_of s = record { start = s.start; end = min (s.start + length s.bytes) (2 ^ 32 - 1) }
 
 -- a segment of zeros that may be read and written
 unfoldable pub zeros_from : ℕ → ℕ → Segment

@@ -5,6 +5,7 @@
 mod elements;
 mod memory;
 mod reads;
+mod spans;
 #[cfg(test)]
 mod tests;
 mod writes;

@@ -248,6 +248,13 @@ impl Memory {
         let _ = &self.segments;
     }
 
+    /// What is mapped.
+    pub(crate) fn segments(&self) -> &[Segment]
+        ensures { result.now ≡ self.now }
+    {
+        self.segments.as_slice()
+    }
+
     /// Whether a byte is mapped at an address and may be written: it lies in a segment with `PF_W`.
     pub fn may_write(&self, address: u32) -> bool
         ensures { result ≡ is_open_at self.now address }

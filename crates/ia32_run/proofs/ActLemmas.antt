@@ -29,7 +29,7 @@ taken_none : (n : ℕ) → ◌≡◌ {A = List ℕ} (take n []) []
 taken_none zero = refl
 taken_none (suc n) = refl
 
-not_fetched : (image : Image) (a : ℕ) (i : Instr) {P : Type 0} → IsImage image → 0x7FFFFFFF ≤ a → IsFetched image a i → P
+pub not_fetched : (image : Image) (a : ℕ) (i : Instr) {P : Type 0} → IsImage image → 0x7FFFFFFF ≤ a → IsFetched image a i → P
 not_fetched image a i whole high f =
     let empty : fetch_window image a ≡ [] = run_ended image a 15 (no_code image a whole high) in
     absurd (not_empty a i (subst (λ bytes. Spells bytes a i) (ap (take f.count) empty ∙ taken_none f.count) f.spelled))

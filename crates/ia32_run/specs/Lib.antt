@@ -1,6 +1,7 @@
 pub mod LastWrites
 pub mod Writers
 pub mod Choices
-pub mod Traces
 pub mod Acts
 pub mod Answers
+pub mod Steps
+pub mod Traces

@@ -1,9 +1,9 @@
 //! What the machine does at an address.
 
-ghost use Rattle.std.specs.Prelude.{◌≡◌, ◌↔◌, Some, slice_get};
+ghost use Rattle.std.specs.Prelude.{◌≡◌, ◌↔◌, Some, slice_get, IfSome};
 ghost use Rattle.image_map.specs.Whole.{IsImage};
 ghost use Rattle.ia32_semantics.specs.Step.{Act as ActSpec, IsActAt};
-ghost use Rattle.ia32_run.specs.Acts.{act_meant};
+ghost use Rattle.ia32_run.specs.Acts.{act_meant, IsKnown, AreKnown};
 
 use ia32_fetch::fetched;
 use ia32_types::Instr;
@@ -29,7 +29,8 @@ fn kind_of(settings: &Settings, number: u32) -> Option<Kind>
 /// Where there is neither, the step is a fault.
 pub fn act_at(image: &Image, settings: &Settings, at: u32) -> Option<Act>
     requires { IsImage image.now }
-    ensures { (act : ActSpec) → (act_meant at result ≡ Some act) ↔ IsActAt image.now settings.now at act }
+    ensures act { (act : ActSpec) → (act_meant at result ≡ Some act) ↔ IsActAt image.now settings.now at act }
+    ensures known { AreKnown settings.now → IfSome result (λ act. IsKnown act) }
 {
     match image.extern_at(at) {
         None => match fetched(image, at) {

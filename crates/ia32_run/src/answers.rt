@@ -1,6 +1,6 @@
 //! How an extern returns.
 
-ghost use Rattle.std.specs.Prelude.{◌≡◌, ℕ, OnOk, [], ◌∷◌, ◌++◌};
+ghost use Rattle.std.specs.Prelude.{◌≡◌, ℕ, length, OnOk, [], ◌∷◌, ◌++◌};
 ghost use Rattle.image_map.specs.declared.image.Image.{Image};
 ghost use Rattle.image_map.specs.Shapes.{shapes};
 ghost use Rattle.ia32_semantics.specs.Effects.{Whole, sets, all_changed};
@@ -19,6 +19,11 @@ use ia32_plan::{Calls, Core, Entry};
 use ia32_semantics::{FlagOut, FlagsOut};
 use ia32_types::{Reg, Width};
 use std::alloc::AllocError;
+
+/// A step has eight words.
+pub(crate) fn are_eight(words: &[u32; 8])
+    ensures { length words.now ≡ 8 }
+{}
 
 /// A flag by bit 16 of a word.
 fn flag_by(word: u32) -> FlagOut
@@ -60,6 +65,7 @@ pub fn return_with(
 ) -> Result<(), AllocError>
     ensures state { OnOk result ((image : Image) → ((a : ℕ) → is_in_first machine.old.core.memory a ≡ is_in_stack machine.old.slot a) → machines.state_of machine.new ≡ performed (answered (results_of words.now) sp place) (machines.state_of machine.old)) }
     ensures shapes { OnOk result (shapes machine.new.core.memory ≡ shapes machine.old.core.memory) }
+    ensures kept { OnOk result ((machine.new.slot ≡ machine.old.slot) × (machine.new.blocks.items ≡ machine.old.blocks.items)) }
 {
     move_calls(&Calls::Left, &mut machine.frames)?;
     let risen = sp.wrapping_add(4);

@@ -2,11 +2,18 @@
 #![tactic(auto)]
 
 mod acts;
+mod advance;
 mod answers;
+mod externs;
+mod finish;
+mod heap;
 mod laws;
+mod log;
+mod runs;
 mod writers;
 
 pub use acts::{Act, act_at};
-pub use answers::return_with;
-pub use laws::sources_are_dependences;
+pub use laws::{sources_are_dependences, traces_are_runs};
+pub use log::{Finish, Occurrence, RunLog};
+pub use runs::trace;
 pub use writers::Writers;
