@@ -7,3 +7,4 @@ pub mod ReadLemmas
 pub mod WriteLemmas
 pub mod TouchLemmas
 pub mod EqualLemmas
+pub mod RangeLemmas

@@ -4,3 +4,4 @@ pub mod Views
 pub mod Reads
 pub mod Writes
 pub mod Same
+pub mod Ranges

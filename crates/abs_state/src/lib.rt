@@ -8,6 +8,7 @@ mod facts;
 mod joins;
 mod parts;
 mod puts;
+mod ranges;
 mod reads;
 mod registers;
 mod same;
@@ -16,6 +17,7 @@ mod touching;
 mod writes;
 
 pub use parts::{with_part, with_second_byte};
+pub use ranges::Piece;
 pub use reads::{cell_at, read_as};
 pub use registers::Registers;
 pub use state::AbsState;

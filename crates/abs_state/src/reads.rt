@@ -187,7 +187,7 @@ fn second_byte(word: Option<u32>) -> ValueSet
 }
 
 /// How many bytes a width has.
-fn size(width: Width) -> u32
+pub(crate) fn size(width: Width) -> u32
     ensures { result ≡ size_spec width }
 {
     match width {

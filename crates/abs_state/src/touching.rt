@@ -125,7 +125,8 @@ fn names_one(region: &RegionId) -> bool
 
 /// The place, where there is one alone.
 pub(crate) fn lone_place(xs: &[Part]) -> Option<Part>
-    ensures { result ≡ lone_place_spec xs.now }
+    ensures value { result ≡ lone_place_spec xs.now }
+    ensures form { IfSome result (λ x. IsCanonical x.si) }
 {
     match xs {
         [x] if x.si.stride() == 0 => Some(*x),
@@ -135,7 +136,8 @@ pub(crate) fn lone_place(xs: &[Part]) -> Option<Part>
 
 /// The place, where it is one of one thing.
 pub(crate) fn sure_place(xs: &[Part]) -> Option<Part>
-    ensures { result ≡ sure_place_spec xs.now }
+    ensures value { result ≡ sure_place_spec xs.now }
+    ensures form { IfSome result (λ x. IsCanonical x.si) }
 {
     match lone_place(xs) {
         Some(x) if names_one(&x.region) => Some(x),
