@@ -8,3 +8,4 @@ pub mod SameLemmas
 pub mod PlaceLemmas
 pub mod ChangeLemmas
 pub mod RebuiltLaws
+pub mod SelfLemmas

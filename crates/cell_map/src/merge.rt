@@ -1,17 +1,20 @@
 //! Two rising lists of cells become one, in one pass.
 
-ghost use Rattle.std.specs.Prelude.{◌≡◌, ◌++◌, ◌+ℤ◌, pos, drop, IfOk};
+ghost use Rattle.std.specs.Prelude.{◌≡◌, ◌++◌, ◌+ℤ◌, pos, drop, [], ◌∷◌, IfOk, IfSome};
 ghost use Rattle.std.specs.Ordering.{int_eq};
-ghost use Rattle.vset.specs.Operations.{of_both as of_both_spec};
+ghost use Rattle.strided.specs.Interval.{IsCanonical};
+ghost use Rattle.vset.specs.Values.{Parts};
+ghost use Rattle.vset.specs.Operations.{of_both as of_both_spec, same_part};
 ghost use Rattle.abs_semantics.specs.Joins.{fits_below, has_length as has_length_spec, may_hold as may_hold_spec, held_by as held_by_spec};
 ghost use Rattle.cell_map.specs.Merges.{entry, value_alone, value_by as value_by_spec, value_of_both, alone as alone_spec, merged as merged_spec};
 
 use crate::regions::{Rule, Side, Turn};
+use crate::same::is_same_interval;
 use abs_semantics::CellValue;
 use image_map::{Cell, RegionId};
 use std::alloc::{AllocError, Global};
 use strided::Si;
-use vset::{Both, ValueSet};
+use vset::{Both, Part, ValueSet};
 
 /// Puts a cell's value at the end of a list, unless it is every value.
 fn put(out: Vec<CellValue>, cell: &Cell, value: ValueSet) -> Result<Vec<CellValue>, AllocError>
@@ -114,7 +117,32 @@ pub fn held_by(cell: &Cell, value: ValueSet) -> ValueSet
     }
 }
 
-/// The values of both.
+/// The part of a value-set that has one alone.
+fn lone_part(v: &ValueSet) -> Option<Part>
+    ensures { IfSome result (λ x. (v.now ≡ Parts (x ∷ [])) × IsCanonical x.si) }
+{
+    match v.parts() {
+        Some([x]) => Some(*x),
+        _ => None,
+    }
+}
+
+fn is_same_part(x: &Part, y: &Part) -> bool
+    ensures { result ≡ same_part x.now y.now }
+{
+    x.region == y.region && is_same_interval(&x.si, &y.si)
+}
+
+/// The one part that both have, where they have no other.
+fn part_of_each(v: &ValueSet, w: &ValueSet) -> Option<Part>
+    ensures { IfSome result (λ x. (v.now ≡ Parts (x ∷ [])) × (w.now ≡ Parts (x ∷ [])) × IsCanonical x.si) }
+{
+    let x = lone_part(v)?;
+    let y = lone_part(w)?;
+    if is_same_part(&x, &y) { Some(x) } else { None }
+}
+
+/// The values of both. Where both are one and the same part they are that part.
 #[tactic(auto, unfolding(vset::specs::Operations::join, vset::specs::Operations::widen))]
 pub fn of_both(
     alloc: Global,
@@ -124,6 +152,9 @@ pub fn of_both(
 ) -> Result<ValueSet, AllocError>
     ensures { IfOk result (λ u. u ≡ of_both_spec both v.now w.now) }
 {
+    if let Some(part) = part_of_each(v, w) {
+        return Ok(ValueSet::one(part));
+    }
     match both {
         Both::Joined => v.join(alloc, w),
         Both::Widened => v.widen(alloc, w),
