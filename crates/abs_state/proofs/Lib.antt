@@ -8,3 +8,4 @@ pub mod WriteLemmas
 pub mod TouchLemmas
 pub mod EqualLemmas
 pub mod RangeLemmas
+pub mod StartLemmas

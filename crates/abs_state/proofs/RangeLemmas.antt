@@ -172,7 +172,7 @@ length_told c n e =
     by_four is has = same_Some n 4 (sym e ∙ is) ∙ length_is 4 c has
 
 -- a cell of another length holds every value
-not_long : (s t u : Bool) → cond {A = Option ℕ} s (Some 1) (cond t (Some 2) (cond u (Some 4) None)) ≡ None → (s ≡ false) × (t ≡ false) × (u ≡ false)
+pub not_long : (s t u : Bool) → cond {A = Option ℕ} s (Some 1) (cond t (Some 2) (cond u (Some 4) None)) ≡ None → (s ≡ false) × (t ≡ false) × (u ≡ false)
 not_long true t u e = absurd (none-some 1 (sym e))
 not_long false true u e = absurd (none-some 2 (sym e))
 not_long false false true e = absurd (none-some 4 (sym e))

@@ -1,6 +1,6 @@
 -- Registers as functions of their numbers.
-use Rattle.std.proofs.Common.{◌≡◌, ℕ, ◌<◌, ◌==◌, Bool, true, false, cond, List, length, get_or, refl, sym, ◌∙◌, ap, ⊎_elim}
-use Rattle.std.specs.Prelude.{slice_set}
+use Rattle.std.proofs.Common.{◌≡◌, ℕ, zero, suc, ◌+◌, [], ◌∷◌, ◌++◌, arith, ◌<◌, ◌==◌, Bool, true, false, cond, List, length, get_or, refl, sym, ◌∙◌, ap, ⊎_elim}
+use Rattle.std.specs.Prelude.{slice_set, replicate}
 use Rattle.std.proofs.lemmas.Bool.{cases_Bool, eqb-true, eq-eqb, cond-true, cond-false, true≢false}
 use Rattle.std.proofs.lemmas.List.{get_or-set_other, ext_get_or}
 use Rattle.std.proofs.lemmas.Grind.{get_or-set_at}
@@ -32,3 +32,11 @@ same_registers xs ys e f same = ext_get_or Top xs ys (e ∙ sym f) (λ i lt. ap 
 pub whole_is : (s : State) (part : Part) (n : ℕ) (v w : Values) → w ≡ with_part_value part (s.registers n) v → with_register s Whole n w ≡ with_register s part n v
 unfolding with_part_value
 whole_is s part n v w is = ap (λ (u : Values). record s { registers = put s.registers n u; fact = fact_without n s.fact }) is
+
+-- one more register that may hold every value
+pushed : (n : ℕ) → replicate n Top ++ Top ∷ [] ≡ replicate (n + 1) Top
+pushed zero = refl
+pushed (suc n) = let more : suc (n + 1) ≡ suc n + 1 = omega arith in ap (λ t. Top ∷ t) (pushed n) ∙ ap (λ k. replicate k Top) more
+
+pub one_top_more : (n : ℕ) (vs next : List Values) (v : Values) → vs ≡ replicate n Top → v ≡ Top → next ≡ vs ++ v ∷ [] → next ≡ replicate (n + 1) Top
+one_top_more n vs next v is top put = put ∙ (λ i. is i ++ top i ∷ []) ∙ pushed n

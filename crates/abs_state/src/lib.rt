@@ -5,6 +5,7 @@ mod addresses;
 mod below;
 mod changes;
 mod facts;
+mod initial;
 mod joins;
 mod parts;
 mod puts;

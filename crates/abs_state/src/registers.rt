@@ -1,9 +1,10 @@
 //! What the eight general registers may hold.
 
-ghost use Rattle.std.specs.Prelude.{◌≡◌, ◌↔◌, slice_set, length, IfOk, IsTrue};
+ghost use Rattle.std.specs.Prelude.{◌≡◌, ◌↔◌, slice_set, length, replicate, IfOk, IsTrue};
 ghost use Rattle.ia32_types.specs.Numbers.{reg_number};
 ghost use Rattle.ia32_semantics.specs.State.{put};
 ghost use Rattle.vset.specs.Values.{Values};
+ghost use Rattle.vset.specs.Values.{Top};
 ghost use Rattle.abs_state.specs.Registers.{register_in, registers_of};
 
 use cell_map::{are_same, of_both};
@@ -36,6 +37,17 @@ impl Registers {
         ensures { result ≡ values.items }
     {
         Registers { values }
+    }
+
+    /// Registers that may hold every value.
+    pub fn unknown(alloc: Global) -> Result<Registers, AllocError>
+        ensures { IfOk result (λ r. r ≡ replicate 8 Top) }
+    {
+        let mut values = Vec::new(alloc);
+        for _ in 0..8u32 {
+            values.push(ValueSet::top())?;
+        }
+        Ok(Registers { values })
     }
 
     /// The registers, of which there are eight.

@@ -178,7 +178,7 @@ fn put(cells: &mut CellMap, e: &CellValue) -> Result<(), AllocError>
 }
 
 /// Puts some cells among others.
-fn put_all(cells: &mut CellMap, news: &[CellValue]) -> Result<(), AllocError>
+pub(crate) fn put_all(cells: &mut CellMap, news: &[CellValue]) -> Result<(), AllocError>
     ensures { OnOk result (cells.new ≡ folded put_value news.now cells.old) }
 {
     let mut rest = news;
