@@ -5,4 +5,11 @@ pub mod StayLaws
 pub mod ListLaws
 pub mod ValueLaws
 pub mod CallLaws
+pub mod ThingLaws
+pub mod ReturnLaws
+pub mod StackLaws
+pub mod EnterLaws
+pub mod BackLaws
+pub mod LeaveLaws
+pub mod ExternLaws
 pub mod RowLaws

@@ -4,6 +4,8 @@ use Rattle.std.proofs.lemmas.Bool.{false≢true, true≢false}
 use Rattle.std.proofs.lemmas.Option.{none-some, same_Some}
 use Rattle.image_map.specs.declared.image.Image.{Image}
 use Rattle.image_map.specs.declared.region.Activation.{Activation}
+use Rattle.image_map.specs.declared.region.Kind.{Kind}
+use Rattle.image_map.specs.declared.region.Kind.TheVariants as kind
 use Rattle.image_map.specs.declared.region.Settings.{Settings}
 use Rattle.image_map.specs.Whole.{IsImage}
 use Rattle.ia32_types.specs.declared.Instr.{Instr}
@@ -14,22 +16,27 @@ use Rattle.ia32_semantics.specs.CallModel.{IsWhole}
 use Rattle.ia32_semantics.specs.Fetch.{IsFetched}
 use Rattle.ia32_semantics.specs.Ia32.{machine}
 use Rattle.ia32_semantics.specs.Machine.{Occurrence}
-use Rattle.ia32_semantics.specs.Step.{Act, Executes, Answers, Step, IsActAt}
+use Rattle.ia32_semantics.specs.Step.{Act, Executes, Answers, Step, IsActAt, IsExternAt, completes, act_completes, operation_completes, kind_completes, returns_to_halt}
 use Rattle.abs_semantics.specs.States.{AbsState}
 use Rattle.abs_semantics.specs.Ownership.{IsKnown}
 use Rattle.abs_steps.specs.declared.warnings.WarnName.{WarnName}
-use Rattle.abs_steps.specs.Places.{Content, Instruction, content_at}
+use Rattle.abs_steps.specs.Places.{Content, Extern, Instruction, content_at}
 use Rattle.abs_steps.specs.Rows.{view_of}
-use Rattle.abs_steps.specs.Successors.{States}
+use Rattle.abs_steps.specs.Successors.{States, at_node, successors}
 use Rattle.abs_steps.specs.Warnings.{warnings}
 use Rattle.call_strings.specs.declared.context.Node.{Node}
+use Rattle.call_strings.specs.Nodes.{pushed}
 use Rattle.slice_soundness.specs.Nodes.{running, IsRooted}
 use Rattle.slice_soundness.specs.Maps.{here}
-use Rattle.slice_soundness.specs.Premises.{IsReady, Comes, GoesOn, Stays}
+use Rattle.slice_soundness.specs.Premises.{IsReady, Comes, GoesOn, Stays, Calls, Returns}
 use Rattle.step_soundness.specs.Steps.{is_plain, IsExecuted}
-use Rattle.call_soundness.specs.Maps.{is_empty, warned_by, state_in, Drawn, map_of}
-use Rattle.call_soundness.specs.Laws.{is_staying}
-use Rattle.call_soundness.proofs.ContentLaws.{fetched_stands}
+use Rattle.call_soundness.specs.Maps.{IsListed, is_empty, warned_by, state_in, Drawn, map_of}
+use Rattle.call_soundness.specs.Laws.{is_staying, only_reads}
+use Rattle.call_soundness.proofs.ContentLaws.{fetched_stands, extern_stands}
+use Rattle.call_soundness.proofs.EnterLaws.{Enters, call_enters}
+use Rattle.call_soundness.proofs.BackLaws.{Leaves}
+use Rattle.call_soundness.proofs.ExternLaws.{extern_leaves}
+use Rattle.call_soundness.proofs.LeaveLaws.{return_leaves}
 use Rattle.call_soundness.proofs.StayLaws.{Moves, plain_moves, jump_moves, branch_moves}
 
 none_left : (ws : List WarnName) → is_empty ws ≡ true → ws ≡ []
@@ -94,6 +101,35 @@ module _ (image : Image) (settings : Settings) (states : States) (drawn : Drawn)
         by (inr (inl jump)) = jump_moves image settings states n a i o executed content jump
         by (inr (inr branch)) = branch_moves image settings states n a i o executed content branch.0 branch.1 ready.canonical.fact
 
+    pub enters : i.op ≡ op.Call → Enters image settings states n a o
+    enters calls = call_enters image settings states n a i o executed content calls (spelled_instruction _ o.before.eip i fetched.spelled).here fetched
+
+    pub leaves : i.op ≡ op.Ret → completes o ≡ false → Leaves image settings states n a o
+    leaves returns not_last =
+        return_leaves image settings states n a i o executed content returns
+        (sym (ap (λ c. act_completes c o) act ∙ ap (λ c. operation_completes c o) returns) ∙ not_last)
+
+  module _ (at : ℕ) (k : Kind) (act : o.act ≡ Answers at k) (is_at : IsActAt image settings o.before.eip o.act) (st : Step image o) where
+    extern_here : (at ≡ o.before.eip) × IsExternAt image settings o.before.eip k
+    extern_here = subst (λ c. IsActAt image settings o.before.eip c) act is_at
+
+    extern_content : content_at image settings n.at ≡ Extern k
+    extern_content = extern_stands image settings o.before.eip k extern_here.1
+
+    pub answers : only_reads k ≡ true → completes o ≡ false → Leaves image settings states n a o
+    answers reads not_last =
+        extern_leaves image settings states n a at k o
+        (record { known = known; canonical = ready.canonical.canonical; act = act; step = st; quiet = no_warning (Extern k) extern_content }) extern_content reads
+        (by k reads (sym (ap (λ c. act_completes c o) act) ∙ not_last))
+      where
+        by : (c : Kind) → only_reads c ≡ true → kind_completes c o ≡ false → returns_to_halt o ≡ false
+        by (kind.Pure j) e f = f
+        by (kind.Reader j) e f = f
+        by kind.Alloc e f = absurd (false≢true e)
+        by kind.Stop e f = absurd (false≢true e)
+        by kind.Unknown e f = absurd (false≢true e)
+        by (kind.Fills x l) e f = absurd (false≢true e)
+
   pub stays : Moves image settings states n a o → Stays (machine image settings) (map_of image settings states drawn) o
   stays m =
       record {
@@ -105,6 +141,43 @@ module _ (image : Image) (settings : Settings) (states : States) (drawn : Drawn)
         };
       }
 
+  pub calls : Enters image settings states n a o → Calls (machine image settings) (map_of image settings states drawn) o
+  calls m =
+      record {
+        new = m.new;
+        grown = m.grown;
+        site = m.site;
+        callee = m.callee;
+        target = record { state = a; has_state = ready.has_value; calls = m.target };
+        leads = record {
+          next = m.next;
+          is_successor = record {
+            state = a;
+            has_state = ready.has_value;
+            listed = subst (λ x. IsListed (at_node (record { context = pushed states.lane o.before.eip m.new.callee n.context; at = x }) m.next) (successors image settings states n a)) m.callee m.listed;
+          };
+          stands = m.stands;
+        };
+      }
+
+  pub returns : Leaves image settings states n a o → Returns (machine image settings) (map_of image settings states drawn) o
+  returns m =
+      record {
+        ending = m.ending;
+        parent = m.parent;
+        older = m.older;
+        were = m.were;
+        are = m.are;
+        place = m.place;
+        next = m.next;
+        stands = m.stands;
+        leads = λ call is. record {
+          state = a;
+          has_state = ready.has_value;
+          listed = m.leads call is.is_target.state is.is_target.has_state is.is_target.calls is.context is.at is.procedure;
+        };
+      }
+
 -- A step that stays in its context is a row, and leaves a whole state.
 pub staying_row : (image : Image) (settings : Settings) (states : States) (drawn : Drawn) (o : Occurrence Act) (i : Instr) → IsImage image → GoesOn (machine image settings) (map_of image settings states drawn) o
     → o.act ≡ Executes i → is_staying i.op ≡ true → Stays (machine image settings) (map_of image settings states drawn) o × IsWhole image o.after
@@ -112,3 +185,27 @@ staying_row image settings states drawn o i is goes act staying =
     let ready = goes.comes.ready in
     let m = moves image settings states drawn is o ready i act goes.comes.happens.act goes.comes.happens.step staying in
     (stays image settings states drawn is o ready m, m.whole)
+
+-- So is a call.
+pub calling_row : (image : Image) (settings : Settings) (states : States) (drawn : Drawn) (o : Occurrence Act) (i : Instr) → IsImage image → GoesOn (machine image settings) (map_of image settings states drawn) o
+    → o.act ≡ Executes i → i.op ≡ op.Call → Calls (machine image settings) (map_of image settings states drawn) o × IsWhole image o.after
+calling_row image settings states drawn o i is goes act call =
+    let ready = goes.comes.ready in
+    let m = enters image settings states drawn is o ready i act goes.comes.happens.act goes.comes.happens.step call in
+    (calls image settings states drawn is o ready m, m.whole)
+
+-- And so is a return that isn't the last step of a run.
+pub returning_row : (image : Image) (settings : Settings) (states : States) (drawn : Drawn) (o : Occurrence Act) (i : Instr) → IsImage image → GoesOn (machine image settings) (map_of image settings states drawn) o
+    → o.act ≡ Executes i → i.op ≡ op.Ret → Returns (machine image settings) (map_of image settings states drawn) o × IsWhole image o.after
+returning_row image settings states drawn o i is goes act return =
+    let ready = goes.comes.ready in
+    let m = leaves image settings states drawn is o ready i act goes.comes.happens.act goes.comes.happens.step return goes.not_last in
+    (returns image settings states drawn is o ready m, m.whole)
+
+-- So is the answer of an extern that only reads.
+pub reading_row : (image : Image) (settings : Settings) (states : States) (drawn : Drawn) (o : Occurrence Act) (at : ℕ) (k : Kind) → IsImage image → GoesOn (machine image settings) (map_of image settings states drawn) o
+    → o.act ≡ Answers at k → only_reads k ≡ true → Returns (machine image settings) (map_of image settings states drawn) o × IsWhole image o.after
+reading_row image settings states drawn o at k is goes act reads =
+    let ready = goes.comes.ready in
+    let m = answers image settings states drawn is o ready at k act goes.comes.happens.act goes.comes.happens.step reads goes.not_last in
+    (returns image settings states drawn is o ready m, m.whole)

@@ -16,3 +16,15 @@ pub record IsCalled (s t : State) (new newest : Activation) (others : List Activ
   pub esp : t.registers 4 ≡ new.base
   pub word : word_at t.memory new.base ≡ Some next
   pub bytes : (y : ℕ) → (is_in_stack s.slot y ≡ true → new.base + 4 ≤ y) → t.memory y ≡ s.memory y
+
+-- From state s the newest activation ends: ESP points behind its return slot and so many further bytes. Of the bytes of the stack those
+-- below ESP may be any; nothing else changes.
+pub record IsReturned (s t : State) (ending parent : Activation) (others : List Activation) (extra : ℕ) : Type 0 where
+  pub before : s.activations ≡ ending ∷ parent ∷ others
+  pub activations : t.activations ≡ parent ∷ others
+  pub allocs : t.allocs ≡ s.allocs
+  pub slot : t.slot ≡ s.slot
+  pub flags : t.flags ≡ s.flags
+  pub registers : (n : ℕ) → (4 == n) ≡ false → t.registers n ≡ s.registers n
+  pub esp : t.registers 4 ≡ ending.base + 4 + extra
+  pub bytes : (y : ℕ) → (is_in_stack s.slot y ≡ true → ending.base + 4 + extra ≤ y) → t.memory y ≡ s.memory y

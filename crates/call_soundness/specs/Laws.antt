@@ -1,7 +1,8 @@
 -- That each step from a state that a map knows is one of the map's. The laws are the project's own.
-use Rattle.std.specs.Prelude.{◌≡◌, ℕ, ◌^◌, ◌<◌, Bool, true, false, ℤ, pos, ◌+ℤ◌, List}
+use Rattle.std.specs.Prelude.{◌≡◌, ℕ, ◌+◌, ◌^◌, ◌<◌, ◌≤◌, Bool, true, false, ℤ, pos, ◌+ℤ◌, ◌-ℤ◌, List}
 use Rattle.image_map.specs.declared.image.Image.{Image}
 use Rattle.image_map.specs.declared.region.Kind.{Kind}
+use Rattle.image_map.specs.declared.region.Kind.TheVariants as kind
 use Rattle.image_map.specs.declared.region.Settings.{Settings}
 use Rattle.image_map.specs.Whole.{IsImage}
 use Rattle.image_map.specs.declared.region.Activation.{Activation}
@@ -13,16 +14,17 @@ use Rattle.ia32_semantics.specs.Fetch.{IsFetched}
 use Rattle.ia32_semantics.specs.Ia32.{machine}
 use Rattle.ia32_semantics.specs.Machine.{Occurrence}
 use Rattle.ia32_semantics.specs.State.{State}
-use Rattle.ia32_semantics.specs.Step.{Act, Executes, IsExternAt}
+use Rattle.ia32_semantics.specs.Step.{Act, Executes, Answers, IsExternAt}
 use Rattle.alocs.specs.Cells.{Division}
 use Rattle.abs_semantics.specs.States.{AbsState, HasCanonical}
 use Rattle.abs_semantics.specs.StandsFor.{StandsFor}
-use Rattle.abs_steps.specs.Calls.{called}
+use Rattle.strided.specs.Interval.{Interval, IsMember}
+use Rattle.abs_steps.specs.Calls.{called, returned}
 use Rattle.abs_steps.specs.Places.{Content, Instruction, Extern, content_at}
 use Rattle.abs_steps.specs.Successors.{States}
-use Rattle.slice_soundness.specs.Premises.{GoesOn, Stays}
+use Rattle.slice_soundness.specs.Premises.{GoesOn, Stays, Calls, Returns}
 use Rattle.step_soundness.specs.Steps.{is_plain}
-use Rattle.call_soundness.specs.Calls.{IsCalled}
+use Rattle.call_soundness.specs.Calls.{IsCalled, IsReturned}
 use Rattle.call_soundness.specs.Maps.{Drawn, map_of}
 
 -- an instruction that is fetched at an address is what stands there
@@ -48,6 +50,35 @@ StayingStepsAreRows =
     → GoesOn (machine image settings) (map_of image settings states drawn) o → o.act ≡ Executes i → is_staying i.op ≡ true
     → Stays (machine image settings) (map_of image settings states drawn) o × IsWhole image o.after
 
+-- From a state that the map knows a call goes to one of the targets of its node, and to a successor, whose abstract state stands for the
+-- state in which the callee begins; and that state is whole.
+abbrev pub CallsAreRows : Type 0
+CallsAreRows =
+    (image : Image) (settings : Settings) (states : States) (drawn : Drawn) (o : Occurrence Act) (i : Instr) → IsImage image
+    → GoesOn (machine image settings) (map_of image settings states drawn) o → o.act ≡ Executes i → i.op ≡ op.Call
+    → Calls (machine image settings) (map_of image settings states drawn) o × IsWhole image o.after
+
+-- From a state that the map knows a return goes to the place after the call of the newest activation: behind each call of the map to
+-- which it may go back there is a successor, whose one abstract state stands for the state after it; and that state is whole.
+abbrev pub ReturnsAreRows : Type 0
+ReturnsAreRows =
+    (image : Image) (settings : Settings) (states : States) (drawn : Drawn) (o : Occurrence Act) (i : Instr) → IsImage image
+    → GoesOn (machine image settings) (map_of image settings states drawn) o → o.act ≡ Executes i → i.op ≡ op.Ret
+    → Returns (machine image settings) (map_of image settings states drawn) o × IsWhole image o.after
+
+-- an extern that reads, and then returns
+abbrev pub only_reads : Kind → Bool
+only_reads (kind.Pure arguments) = true
+only_reads (kind.Reader arguments) = true
+only_reads _ = false
+
+-- so does the answer of such an extern
+abbrev pub ReadersAreRows : Type 0
+ReadersAreRows =
+    (image : Image) (settings : Settings) (states : States) (drawn : Drawn) (o : Occurrence Act) (at : ℕ) (k : Kind) → IsImage image
+    → GoesOn (machine image settings) (map_of image settings states drawn) o → o.act ≡ Answers at k → only_reads k ≡ true
+    → Returns (machine image settings) (map_of image settings states drawn) o × IsWhole image o.after
+
 -- After a call the abstract state after it stands for the state: at a node of procedure p, where the return slot lies so far from the base
 -- of p's newest activation.
 abbrev pub CalledStatesStand : Type 0
@@ -55,3 +86,10 @@ CalledStatesStand =
     (image : Image) (lane : ℕ) (a : AbsState) (d : Division) (s t : State) (new newest : Activation) (others : List Activation) (next : ℕ) (offset : ℤ)
     → IsImage image → IsLaidOut image s → HasCanonical a → StandsFor lane a s → IsCalled s t new newest others next
     → pos new.base ≡ pos newest.base +ℤ offset → next < 2 ^ 32 → StandsFor lane (called d newest.callee offset new.callee next a) t
+
+-- After a return, too: by a link that has the distance of the two activations, where it takes no bytes of the caller's caller.
+abbrev pub ReturnedStatesStand : Type 0
+ReturnedStatesStand =
+    (image : Image) (lane : ℕ) (a : AbsState) (s t : State) (ending parent : Activation) (others : List Activation) (off : Interval) (extra : ℕ)
+    → IsImage image → IsWhole image s → StandsFor lane a s → IsReturned s t ending parent others extra
+    → IsMember (pos ending.base -ℤ pos parent.base) off → ending.base + 4 + extra ≤ parent.base → StandsFor lane (returned ending.callee parent.callee off extra a) t

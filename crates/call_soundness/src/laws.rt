@@ -1,6 +1,6 @@
 //! Laws of the definitions.
 
-ghost use Rattle.call_soundness.specs.Laws.{FetchedInstructionsStand, ExternsStand, StayingStepsAreRows, CalledStatesStand};
+ghost use Rattle.call_soundness.specs.Laws.{FetchedInstructionsStand, ExternsStand, StayingStepsAreRows, CallsAreRows, ReturnsAreRows, ReadersAreRows, CalledStatesStand, ReturnedStatesStand};
 
 /// An instruction that is fetched at an address is what stands there.
 pub fn fetched_instructions_stand()
@@ -18,7 +18,29 @@ pub fn staying_steps_are_rows()
     ensures { StayingStepsAreRows }
 {}
 
+/// From a state that a map knows, a call goes to a target of its node, and to a successor whose abstract state stands for the state in
+/// which the callee begins. That state is whole.
+pub fn calls_are_rows()
+    ensures { CallsAreRows }
+{}
+
+/// From a state that a map knows, a return goes to the place after the newest call: behind each call of the map to which it may go back
+/// there is a successor, whose one abstract state stands for the state after it. That state is whole.
+pub fn returns_are_rows()
+    ensures { ReturnsAreRows }
+{}
+
+/// So does the answer of an extern that only reads.
+pub fn readers_are_rows()
+    ensures { ReadersAreRows }
+{}
+
 /// After a call the abstract state after it stands for the state.
 pub fn called_states_stand()
     ensures { CalledStatesStand }
+{}
+
+/// So it does after a return.
+pub fn returned_states_stand()
+    ensures { ReturnedStatesStand }
 {}

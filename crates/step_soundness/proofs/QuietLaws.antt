@@ -58,7 +58,7 @@ unfolding warnings
 no_warnings content image v e = are_none (has_warning content image v) e
 
 -- no reason is left
-no_reasons : (rs : List Reason) → list_any (same_reason reason.UnknownWrite) rs ≡ false → list_any (same_reason reason.OutOfRegion) rs ≡ false → list_any (same_reason reason.HeapOverrun) rs ≡ false → rs ≡ []
+pub no_reasons : (rs : List Reason) → list_any (same_reason reason.UnknownWrite) rs ≡ false → list_any (same_reason reason.OutOfRegion) rs ≡ false → list_any (same_reason reason.HeapOverrun) rs ≡ false → rs ≡ []
 no_reasons [] e f g = refl
 no_reasons (reason.UnknownWrite ∷ rs) e f g = absurd (true≢false e)
 no_reasons (reason.OutOfRegion ∷ rs) e f g = absurd (true≢false f)

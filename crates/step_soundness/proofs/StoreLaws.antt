@@ -39,7 +39,7 @@ outside (suc k) at v y h = by (at == y) refl (outside k (at + 1) (v / 256) y (fu
     by false e rest = rest
 
 -- they are read back
-read_back : (k at v : ℕ) (m : Bytes) → bytes_at (overwritten m at (number_bytes k v)) at k ≡ Some (number_bytes k v)
+pub read_back : (k at v : ℕ) (m : Bytes) → bytes_at (overwritten m at (number_bytes k v)) at k ≡ Some (number_bytes k v)
 unfolding bytes_at
 read_back zero at v m = refl
 read_back (suc k) at v m =
@@ -58,7 +58,7 @@ read_back (suc k) at v m =
         by true e = let f : at ≡ at + 1 + j = eqb-true at (at + 1 + j) e in absurd (omega (arith, f))
         by false e = refl
 
-number_back : (k v : ℕ) → v < numbers_of k → little_endian (number_bytes k v) ≡ v
+pub number_back : (k v : ℕ) → v < numbers_of k → little_endian (number_bytes k v) ≡ v
 unfolding little_endian numbers_of
 number_back zero v lt = omega (arith, lt)
 number_back (suc k) v lt =
