@@ -8,7 +8,8 @@ use Rattle.vset.specs.Values.{Values}
 use Rattle.abs_semantics.specs.States.{AbsState}
 use Rattle.abs_steps.specs.Strings.{count_of}
 use Rattle.abs_steps.specs.Accesses.{range_of, string_range}
-use Rattle.transfer.specs.Ranges.{ranged, length_of, string_length}
+use Rattle.abs_steps.specs.Externs.{fill_effects}
+use Rattle.transfer.specs.Ranges.{ranged, length_of, string_length, filled_by}
 
 pub range_by_length : (write : Bool) (at : Values) (z : ℕ) (c : Option Interval) → range_of write at z c ≡ ranged write at (length_of z c)
 range_by_length write at z None = refl
@@ -19,3 +20,7 @@ string_range_by_length write a false B8 at = refl
 string_range_by_length write a false W16 at = refl
 string_range_by_length write a false D32 at = refl
 string_range_by_length write a true width at = range_by_length write at (size width) (count_of a (size width))
+
+pub filled_by_length : (at : Values) (c : Option Interval) → fill_effects at c ≡ filled_by at (length_of 1 c)
+filled_by_length at None = refl
+filled_by_length at (Some c) = refl

@@ -4,8 +4,10 @@ use Rattle.ia32_types.specs.declared.Width.{Width}
 use Rattle.ia32_semantics.specs.Operands.{size}
 use Rattle.strided.specs.Interval.{Interval}
 use Rattle.vset.specs.Values.{Values}
+use Rattle.abs_semantics.specs.declared.parts.RangeValue.TheVariants as range
 use Rattle.abs_semantics.specs.States.{AbsState}
 use Rattle.abs_steps.specs.declared.accesses.Access.{Access}
+use Rattle.abs_steps.specs.Effects.{AbsEffect, fills}
 use Rattle.abs_steps.specs.Strings.{count_of, bytes_of}
 use Rattle.abs_steps.specs.Accesses.{access}
 
@@ -23,3 +25,8 @@ length_of z (Some c) = Some (bytes_of z c)
 abbrev pub string_length : AbsState → Bool → Width → Option ℕ
 string_length a false width = Some (size width)
 string_length a true width = length_of (size width) (count_of a (size width))
+
+-- any bytes in a range of so many, if any
+abbrev pub filled_by : Values → Option ℕ → List AbsEffect
+filled_by at None = fills at None range.Any ∷ []
+filled_by at (Some n) = if n == 0 then [] else fills at (Some n) range.Any ∷ []

@@ -1,9 +1,13 @@
-//! What instructions and externs access in memory in an abstract state, and what they make of it.
+//! What instructions and externs access in memory in an abstract state.
 #![tactic(auto)]
 
 mod access_lists;
 mod externs;
+#[cfg(test)]
+mod tests;
+mod view;
 mod widths;
 
 pub use access_lists::{accesses, reads, writes};
-pub use externs::extern_reads;
+pub use externs::{extern_accesses, extern_reads, extern_writes};
+pub use view::View;
