@@ -1,6 +1,6 @@
 //! Two rising lists of cells become one, in one pass.
 
-ghost use Rattle.std.specs.Prelude.{◌≡◌, ◌++◌, ◌+ℤ◌, pos, drop, [], ◌∷◌, IfOk, IfSome};
+ghost use Rattle.std.specs.Prelude.{◌≡◌, ◌++◌, ◌+ℤ◌, pos, drop, [], ◌∷◌, IfOk, IfSome, OnOk};
 ghost use Rattle.std.specs.Ordering.{int_eq};
 ghost use Rattle.strided.specs.Interval.{IsCanonical};
 ghost use Rattle.vset.specs.Values.{Parts};
@@ -17,46 +17,44 @@ use strided::Si;
 use vset::{Both, Part, ValueSet};
 
 /// Puts a cell's value at the end of a list, unless it is every value.
-fn put(out: Vec<CellValue>, cell: &Cell, value: ValueSet) -> Result<Vec<CellValue>, AllocError>
-    ensures { IfOk result (λ v. v.items ≡ out.items ++ entry cell.now value) }
+fn put(out: &mut Vec<CellValue>, cell: &Cell, value: ValueSet) -> Result<(), AllocError>
+    ensures { OnOk result (out.new.items ≡ out.old.items ++ entry cell.now value) }
 {
-    let mut out = out;
     if value.parts().is_some() {
         out.push(CellValue { cell: *cell, value })?;
     }
-    Ok(out)
+    Ok(())
 }
 
 /// The same with a cell that one list alone has, where it is wanted.
-fn put_alone(out: Vec<CellValue>, wanted: bool, e: &CellValue) -> Result<Vec<CellValue>, AllocError>
-    ensures { IfOk result (λ v. v.items ≡ out.items ++ entry e.now.cell (value_alone wanted e.now.value)) }
+fn put_alone(out: &mut Vec<CellValue>, wanted: bool, e: &CellValue) -> Result<(), AllocError>
+    ensures { OnOk result (out.new.items ≡ out.old.items ++ entry e.now.cell (value_alone wanted e.now.value)) }
 {
     if wanted {
         put(out, &e.cell, e.value.clone()?)
     } else {
-        Ok(out)
+        Ok(())
     }
 }
 
 /// The cells of one list whose region is of a side.
 fn put_rest(
-    out: Vec<CellValue>,
+    out: &mut Vec<CellValue>,
     rule: &Rule<'_>,
     side: Side,
     es: &[CellValue],
-) -> Result<Vec<CellValue>, AllocError>
-    ensures { IfOk result (λ v. v.items ≡ out.items ++ alone_spec rule.now.both rule.now.first rule.now.second side es.now) }
+) -> Result<(), AllocError>
+    ensures { OnOk result (out.new.items ≡ out.old.items ++ alone_spec rule.now.both rule.now.first rule.now.second side es.now) }
 {
-    let mut out = out;
     let mut turn = Turn {
         region: RegionId::Global,
         side: Side::Together,
     };
     for e in es {
         turn = rule.turned(turn, &e.cell.region);
-        out = put_alone(out, side.is(turn.side), e)?;
+        put_alone(out, side.is(turn.side), e)?;
     }
-    Ok(out)
+    Ok(())
 }
 
 /// The entries from one on.
@@ -199,20 +197,20 @@ pub(crate) fn merge(
         if x.cell == y.cell {
             turn = rule.turned(turn, &x.cell.region);
             let value = value_by(alloc, rule.both, turn.side, x, y)?;
-            out = put(out, &x.cell, value)?;
+            put(&mut out, &x.cell, value)?;
             i += 1;
             j += 1;
         } else if x.cell.is_before(&y.cell) {
             turn = rule.turned(turn, &x.cell.region);
-            out = put_alone(out, Side::First.is(turn.side), x)?;
+            put_alone(&mut out, Side::First.is(turn.side), x)?;
             i += 1;
         } else {
             turn = rule.turned(turn, &y.cell.region);
-            out = put_alone(out, Side::Second.is(turn.side), y)?;
+            put_alone(&mut out, Side::Second.is(turn.side), y)?;
             j += 1;
         }
     }
-    let firsts = put_rest(out, rule, Side::First, rest(xs, i))?;
-    let all = put_rest(firsts, rule, Side::Second, rest(ys, j))?;
-    Ok(all)
+    put_rest(&mut out, rule, Side::First, rest(xs, i))?;
+    put_rest(&mut out, rule, Side::Second, rest(ys, j))?;
+    Ok(out)
 }

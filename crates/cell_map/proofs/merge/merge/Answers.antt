@@ -10,8 +10,8 @@ loop-i-preserved-then-eq c =
     let rule = c.args.rule.now in
     let x = c.index-xs-i.result in
     let y = c.index-ys-j.result in (
-      step_same (value_of_both rule.both rule.first rule.second) c.args.xs.now c.args.ys.now c.loop-i.i c.loop-i.j x y c.loop-i-test.true c.if-j-ys.true c.index-xs-i.is c.index-ys-j.is c.loop-i.out.items c.in_ok-out.out.items _ c.in_ok-value.value
-          (sym c.eq.ensures ∙ c.if-eq.true) (c.in_ok-value.ensures ∙ ap (λ s. value_by rule.both s x.cell x.value y.value) c.turned-turn.ensures.side) c.in_ok-out.ensures c.loop-i.invariant.0,
+      step_same (value_of_both rule.both rule.first rule.second) c.args.xs.now c.args.ys.now c.loop-i.i c.loop-i.j x y c.loop-i-test.true c.if-j-ys.true c.index-xs-i.is c.index-ys-j.is c.loop-i.out.items c.put.new.out.items _ c.in_ok-value.value
+          (sym c.eq.ensures ∙ c.if-eq.true) (c.in_ok-value.ensures ∙ ap (λ s. value_by rule.both s x.cell x.value y.value) c.turned-turn.ensures.side) c.in_ok-put.ensures c.loop-i.invariant.0,
       c.turned-turn.ensures.side ∙ ap (side_of rule.both rule.first rule.second) (sym c.turned-turn.ensures.region),
     )
 
@@ -20,10 +20,10 @@ loop-i-preserved-then-is_before c =
     let rule = c.args.rule.now in
     let x = c.index-xs-i.result in
     let y = c.index-ys-j.result in (
-      step_first (value_of_both rule.both rule.first rule.second) c.args.xs.now c.args.ys.now c.loop-i.i c.loop-i.j x y c.loop-i-test.true c.if-j-ys.true c.index-xs-i.is c.index-ys-j.is c.loop-i.out.items c.in_ok-out-2.out.items _ (value_alone c.is.result x.value)
+      step_first (value_of_both rule.both rule.first rule.second) c.args.xs.now c.args.ys.now c.loop-i.i c.loop-i.j x y c.loop-i-test.true c.if-j-ys.true c.index-xs-i.is c.index-ys-j.is c.loop-i.out.items c.put_alone.new.out.items _ (value_alone c.is.result x.value)
           (sym c.eq.ensures ∙ c.if-eq.false) (sym c.is_before.ensures ∙ c.if-is_before.true)
           (ap (λ t. value_alone t x.value) (c.is.ensures ∙ ap (is_side First) c.turned-turn-then-is_before.ensures.side) ∙ sym (first_alone rule.both (side_of rule.both rule.first rule.second x.cell.region) x.cell x.value))
-          c.in_ok-out-2.ensures c.loop-i.invariant.0,
+          c.in_ok-put_alone.ensures c.loop-i.invariant.0,
       c.turned-turn-then-is_before.ensures.side ∙ ap (side_of rule.both rule.first rule.second) (sym c.turned-turn-then-is_before.ensures.region),
     )
 
@@ -32,16 +32,16 @@ loop-i-preserved c =
     let rule = c.args.rule.now in
     let x = c.index-xs-i.result in
     let y = c.index-ys-j.result in (
-      step_second (value_of_both rule.both rule.first rule.second) c.args.xs.now c.args.ys.now c.loop-i.i c.loop-i.j x y c.loop-i-test.true c.if-j-ys.true c.index-xs-i.is c.index-ys-j.is c.loop-i.out.items c.in_ok-out-3.out.items _ (value_alone c.is-else-is_before.result y.value)
+      step_second (value_of_both rule.both rule.first rule.second) c.args.xs.now c.args.ys.now c.loop-i.i c.loop-i.j x y c.loop-i-test.true c.if-j-ys.true c.index-xs-i.is c.index-ys-j.is c.loop-i.out.items c.put_alone-else-is_before.new.out.items _ (value_alone c.is-else-is_before.result y.value)
           (sym c.eq.ensures ∙ c.if-eq.false) (sym c.is_before.ensures ∙ c.if-is_before.false)
           (ap (λ t. value_alone t y.value) (c.is-else-is_before.ensures ∙ ap (is_side Second) c.turned-turn-else-is_before.ensures.side) ∙ sym (second_is_alone rule.both (side_of rule.both rule.first rule.second y.cell.region) y.cell y.value))
-          c.in_ok-out-3.ensures c.loop-i.invariant.0,
+          c.in_ok-put_alone-2.ensures c.loop-i.invariant.0,
       c.turned-turn-else-is_before.ensures.side ∙ ap (side_of rule.both rule.first rule.second) (sym c.turned-turn-else-is_before.ensures.region),
     )
 
 pub returns : goal.returns
 returns c =
     let rule = c.args.rule.now in
-    merge_ends rule.both rule.first rule.second c.args.xs.now c.args.ys.now c.rest.result.now c.rest-2.result.now c.loop-i.i c.loop-i.j c.loop-i.out.items c.in_ok-firsts.firsts.items c.in_ok-all.all.items _
+    merge_ends rule.both rule.first rule.second c.args.xs.now c.args.ys.now c.rest.result.now c.rest-2.result.now c.loop-i.i c.loop-i.j c.loop-i.out.items c.put_rest.new.out.items c.put_rest-2.new.out.items _
     (elim c.loop-i-test.branch [ then-loop-i-test+else-j-ys w ↦ inr w.if-j-ys.false | else-loop-i-test w ↦ inl w.loop-i-test.false ])
-    c.rest.ensures c.rest-2.ensures c.in_ok-firsts.ensures c.in_ok-all.ensures c.loop-i.invariant.0
+    c.rest.ensures c.rest-2.ensures c.in_ok-put_rest.ensures c.in_ok-put_rest-2.ensures c.loop-i.invariant.0

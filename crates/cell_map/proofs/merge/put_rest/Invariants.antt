@@ -4,5 +4,5 @@ use Rattle.cell_map.proofs.merge.put_rest.Given as goal
 
 abbrev pub invariant-loop-e : goal.invariant-loop-e
 invariant-loop-e l =
-    (l.out.items ++ alone l.rule.both l.rule.first l.rule.second l.side (drop l.e-index l.es) ≡ l.fn.out.items ++ alone l.rule.both l.rule.first l.rule.second l.side l.es)
+    (l.out.items ++ alone l.rule.both l.rule.first l.rule.second l.side (drop l.e-index l.es) ≡ l.initial.out.items ++ alone l.rule.both l.rule.first l.rule.second l.side l.es)
     × (l.turn.side ≡ side_of l.rule.both l.rule.first l.rule.second l.turn.region)
