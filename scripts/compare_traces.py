@@ -46,7 +46,7 @@ def part(source, n, k):
     if kind < 0.87:
         return f"call helper{n}"
     if kind < 0.93:
-        return f"test eax, {1 << source.randrange(8)}\nje skip{n}_{k}\n{source.choice(['cmp ecx, edx', 'xor edx, edx', 'stc' if False else 'cld'])}\nskip{n}_{k}: nop"
+        return f"test eax, {1 << source.randrange(8)}\nje skip{n}_{k}\n{source.choice(['cmp ecx, edx', 'xor edx, edx', 'cld'])}\nskip{n}_{k}: nop"
     return call(source)
 
 

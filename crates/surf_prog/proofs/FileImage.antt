@@ -1,18 +1,20 @@
 -- A file has one image, as far as its addresses show: images of one file have the same entry, the same code and the same bytes.
 use Rattle.std.proofs.Common.{◌≡◌, ℕ, zero, suc, ◌+◌, Bool, true, false, cond, List, [], ◌∷◌, Option, Some, None, Result, Ok, Err, refl, sym, ◌∙◌, ap, arith}
-use Rattle.std.specs.Prelude.{IfOk, MatchOption, bit_and, ◌==◌}
+use Rattle.std.specs.Prelude.{IfOk, MatchOption, bit_and, ◌==◌, ◌||◌, is_some, map, length}
+use Rattle.std.specs.List.{list_any}
 use Rattle.std.proofs.lemmas.Bool.{false≢true}
 use Rattle.std.specs.Option.{option_map_or}
 use Rattle.image_map.specs.declared.image.Segment.{Segment}
+use Rattle.image_map.specs.declared.image.Extern.{Extern}
 use Rattle.image_map.specs.declared.image.Image.{Image}
 use Rattle.image_map.specs.Memory.{holds, has_flag, segment_at, is_in}
-use Rattle.image_map.specs.Queries.{byte_at, is_code}
+use Rattle.image_map.specs.Queries.{byte_at, is_code, is_in_segment}
 use Rattle.image_map.specs.Whole.{IsImage}
 use Rattle.elf32.specs.declared.error.ElfError.{ElfError}
-use Rattle.elf32.specs.Checks.{no_header, wrong_identity, wrong_header, short_tables, wrong_segments, short_sections}
+use Rattle.elf32.specs.Checks.{sections, no_header, wrong_identity, wrong_header, short_tables, wrong_segments, short_sections}
 use Rattle.elf32.specs.Shapes.{in_shape}
 use Rattle.elf32.specs.Relocating.{Relocated}
-use Rattle.elf32.specs.Loading.{outcome, error_of, wrong_relocation, failure, Shows, Loads}
+use Rattle.elf32.specs.Loading.{outcome, error_of, wrong_relocation, failure, extern_name, Shows, Loads}
 use Rattle.elf32.proofs.Whole.{shown_image}
 use Rattle.ia32_semantics.specs.Fetch.{code_byte, begun_by, code_run}
 use Rattle.command_words.specs.declared.line.Entry.{Entry}
@@ -94,6 +96,40 @@ pub same_code : (file : List ℕ) (i j : Image) → Loads file i → Loads file 
 same_code file i j p q a =
     let shape_is : shapes i.segments ≡ shapes j.segments = (shown file i p).shows.segments ∙ sym (shown file j q).shows.segments in
     is_in_by_shapes i.segments 1 a ∙ ap (λ ss. in_shapes ss 1 a) shape_is ∙ sym (is_in_by_shapes j.segments 1 a)
+
+pub same_flag : (file : List ℕ) (i j : Image) (bit : ℕ) → Loads file i → Loads file j → (a : ℕ) → is_in i.segments bit a ≡ is_in j.segments bit a
+same_flag file i j bit p q a =
+    let shape_is : shapes i.segments ≡ shapes j.segments = (shown file i p).shows.segments ∙ sym (shown file j q).shows.segments in
+    is_in_by_shapes i.segments bit a ∙ ap (λ ss. in_shapes ss bit a) shape_is ∙ sym (is_in_by_shapes j.segments bit a)
+
+there_go : (b : Bool) (s : Segment) (rest : Option Segment) (r : Bool) → is_some rest ≡ r → is_some (cond b (Some s) rest) ≡ (b || r)
+there_go true s rest r e = refl
+there_go false s rest r e = e
+
+there_by_shapes : (ss : List Segment) (a : ℕ) → is_some (segment_at ss a) ≡ list_any (in_shape a) (shapes ss)
+there_by_shapes [] a = refl
+there_by_shapes (s ∷ ss) a = there_go (holds a s) s (segment_at ss a) (list_any (in_shape a) (shapes ss)) (there_by_shapes ss a)
+
+-- an address lies in a segment of each
+pub same_there : (file : List ℕ) (i j : Image) → Loads file i → Loads file j → (a : ℕ) → is_in_segment i a ≡ is_in_segment j a
+same_there file i j p q a =
+    let shape_is : shapes i.segments ≡ shapes j.segments = (shown file i p).shows.segments ∙ sym (shown file j q).shows.segments in
+    there_by_shapes i.segments a ∙ ap (λ ss. list_any (in_shape a) ss) shape_is ∙ sym (there_by_shapes j.segments a)
+
+names_alike : (xs ys : List Extern) → map (λ (e : Extern). e.name) xs ≡ map (λ (e : Extern). e.name) ys → xs ≡ ys
+names_alike [] [] same = refl
+names_alike [] (y ∷ ys) same = absurd (let long = ap length same in omega arith)
+names_alike (x ∷ xs) [] same = absurd (let long = ap length same in omega arith)
+names_alike (x ∷ xs) (y ∷ ys) same =
+    let first : x.name ≡ y.name = cc in
+    let rest : map (λ (e : Extern). e.name) xs ≡ map (λ (e : Extern). e.name) ys = cc in
+    ap (λ n. record x { name = n } ∷ xs) first ∙ ap (λ l. y ∷ l) (names_alike xs ys rest)
+
+pub same_externs : (file : List ℕ) (i j : Image) → Loads file i → Loads file j → i.externs ≡ j.externs
+same_externs file i j p q =
+    let one = shown file i p in
+    let two = shown file j q in
+    names_alike i.externs j.externs (one.shows.externs ∙ ap (λ (st : Relocated). map (extern_name file (sections file)) st.externs) (one_state file i j one two) ∙ sym two.shows.externs)
 
 pub same_bytes : (file : List ℕ) (i j : Image) → Loads file i → Loads file j → (a : ℕ) → byte_at i a ≡ byte_at j a
 same_bytes file i j p q a =

@@ -1,11 +1,11 @@
-pub mod OneBegins
 pub mod SegmentLaws
 pub mod CodeLaws
 pub mod ListingLaws
+pub mod TracingLaws
 pub mod FileImage
 pub mod RefusalLaws
 pub mod RequestLaws
-pub mod RisingLists
+pub mod OneTrace
 pub mod OneAnswer
 pub mod RunReply
 pub mod StraightCode

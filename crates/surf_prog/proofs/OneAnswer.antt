@@ -17,7 +17,8 @@ use Rattle.surf_prog.specs.Once.{IsSliceReply, IsListReply, first_place}
 use Rattle.surf_prog.specs.OneAnswer.{RepliesAreOne, StopsAreOne, AbsencesAreOne, OutcomesExclude}
 use Rattle.surf_prog.proofs.StraightCode.StopLemmas.{one_stop}
 use Rattle.surf_prog.proofs.FileImage.{same_run, same_code_of, one_place}
-use Rattle.surf_prog.proofs.RisingLists.{same_rising}
+use Rattle.ia32_run.proofs.RisingLists.{same_rising}
+use Rattle.surf_prog.proofs.OneTrace.{one_trace_reply}
 use Rattle.surf_prog.proofs.RequestLaws.{one_code, loads_passes, enters_once, reply_enters, absent_enters, unsupported_enters, absent_supported, reply_supported, reply_present}
 
 -- -- Slices
@@ -64,6 +65,7 @@ one_list_reply file entry from steps one other p q =
 pub replies_are_one : RepliesAreOne
 replies_are_one file (task.Slice entry at lane) one other p q = one_slice_reply file entry at lane one other p q
 replies_are_one file (task.List entry from steps) one other p q = one_list_reply file entry from steps one other p q
+replies_are_one file (task.Trace entry options) one other p q = one_trace_reply file entry options one other p q
 
 -- -- Refusals
 
@@ -75,9 +77,11 @@ stops_are_one file (task.Slice entry at lane) one other p q =
     let stops = subst (λ e. StopsAt e (code_of j e) one) (one_place file entry i j p.1 q.1 p.2 q.2) code in
     one_stop q.1 (code_of j q.1) one other stops q.3
 stops_are_one file (task.List entry from steps) one other p q = absurd p
+stops_are_one file (task.Trace entry options) one other p q = absurd p
 
 pub absences_are_one : AbsencesAreOne
 absences_are_one file (task.Slice entry at lane) one other p q = p.0 ∙ sym q.0
+absences_are_one file (task.Trace entry options) one other p q = absurd p
 absences_are_one file (task.List entry from steps) one other p q = let same : ◌≡◌ {A = Option ℕ} (Some one) (Some other) = sym p.0 ∙ q.0 in cc
 
 pub outcomes_exclude : OutcomesExclude

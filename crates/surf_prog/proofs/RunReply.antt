@@ -49,6 +49,7 @@ slice_tells_dependences file entry at lane text reply image loads settings finds
 pub reply_tells_dependences : (file : List ℕ) (asked : Task) (text : List ℕ) → IsReply file asked text → TellsDependences file asked text
 reply_tells_dependences file (task.Slice entry at lane) text reply = slice_tells_dependences file entry at lane text reply
 reply_tells_dependences file (task.List entry from steps) text reply = tt
+reply_tells_dependences file (task.Trace entry options) text reply = tt
 
 -- so does what a request writes
 pub writes_dependences : (words : List (List ℕ)) (files : List ℕ → Option (List ℕ)) (old new : Option (List ℕ)) → WritesReply words files (λ text. Appends old new text) → WritesDependences words files old new

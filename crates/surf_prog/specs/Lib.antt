@@ -1,5 +1,6 @@
 pub mod Listing
 pub mod Words
+pub mod Tracing
 pub mod Entry
 pub mod Once
 pub mod Answer

@@ -18,6 +18,8 @@ use Rattle.slicer.specs.Slicer.{FlowEdge, IsSlice}
 use Rattle.surf_prog.specs.Straight.Code.{IsStraight, StopsAt, straight_graph}
 use Rattle.surf_prog.specs.Straight.Bytes.{code_of}
 use Rattle.surf_prog.specs.Listing.{IsTheListing}
+use Rattle.surf_prog.specs.Tracing.{IsTracing}
+use Rattle.surf_prog.specs.declared.words.RunOptions.{RunOptions}
 use Rattle.requests.specs.Texts.{slice_text}
 use Rattle.surf_prog.specs.Entry.{Enters, LacksEntry}
 use Rattle.surf_prog.specs.Words.{Asks, request_of, entry_of}
@@ -72,15 +74,24 @@ pub record IsListReply (file : List ℕ) (entry : Option Entry) (from : Option �
   pub there : HasList file entry from
   pub lists : IsTheListing there.image (first_place there.place from) steps text
 
+-- the text tells a run of the file's image from where it is entered
+pub record IsTraceReply (file : List ℕ) (entry : Option Entry) (options : RunOptions) (text : List ℕ) : Type 0 where
+  pub image : Image
+  pub place : ℕ
+  pub entered : Enters file entry image place
+  pub told : IsTracing image place options text
+
 -- the text is the reply to what is asked
 abbrev pub IsReply : List ℕ → Task → List ℕ → Type 0
 IsReply file (task.Slice entry at lane) text = IsSliceReply file entry at lane text
 IsReply file (task.List entry from steps) text = IsListReply file entry from steps text
+IsReply file (task.Trace entry options) text = IsTraceReply file entry options text
 
 -- there is a reply
 abbrev pub HasReply : List ℕ → Task → Type 0
 HasReply file (task.Slice entry at lane) = (instrs : List Instr) × HasCode file entry instrs × HasNode instrs at
 HasReply file (task.List entry from steps) = HasList file entry from
+HasReply file (task.Trace entry options) = (image : Image) × (place : ℕ) × Enters file entry image place
 
 -- the file has no image: this check is the first that fails
 abbrev pub HasNoImage : List ℕ → ElfError → Type 0
@@ -95,12 +106,14 @@ abbrev pub IsUnsupported : List ℕ → Task → ℕ → Type 0
 IsUnsupported file (task.Slice entry at lane) stop =
     (image : Image) × (place : ℕ) × Enters file entry image place × StopsAt place (code_of image place) stop
 IsUnsupported file (task.List entry from steps) stop = ⊥
+IsUnsupported file (task.Trace entry options) stop = ⊥
 
 -- the code is straight, and no node stands at the address; or a list was to begin at this address, which isn't code
 abbrev pub IsAbsent : List ℕ → Task → ℕ → Type 0
 IsAbsent file (task.Slice entry at lane) absent = (absent ≡ at) × ((instrs : List Instr) × HasCode file entry instrs × ¬ HasNode instrs at)
 IsAbsent file (task.List entry from steps) absent =
     (from ≡ Some absent) × ((image : Image) × (place : ℕ) × Enters file entry image place × (is_code image absent ≡ false))
+IsAbsent file (task.Trace entry options) absent = ⊥
 
 -- -- What is told on the error sink
 

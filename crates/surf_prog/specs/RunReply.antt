@@ -20,7 +20,7 @@ abbrev pub TellsAddress : List ℕ → ℕ → Type 0
 TellsAddress text address = (before : List ℕ) × (after : List ℕ) × (text ≡ before ++ (address_line address ++ after))
 
 -- Wherever in a run of the file's image an occurrence at the criterion depends on another, the text tells the other's address,
--- whatever kinds its externs have. (A list has no criterion.)
+-- whatever kinds its externs have. (A list has no criterion, and neither has a trace.)
 abbrev pub TellsDependences : List ℕ → Task → List ℕ → Type 0
 TellsDependences file (task.Slice entry at lane) text =
     (image : Image) → Loads file image → (settings : Settings) → entry_place image entry ≡ Some settings.entry
@@ -30,6 +30,7 @@ TellsDependences file (task.Slice entry at lane) text =
     → Depends (machine image settings) false run j i
     → TellsAddress text (stands_at source)
 TellsDependences file (task.List entry from steps) text = Unit {0}
+TellsDependences file (task.Trace entry options) text = Unit {0}
 
 -- What was asked for was appended, and where the file is told and a slice was asked for, it tells the dependences of the file's runs.
 abbrev pub WritesDependences : List (List ℕ) → (List ℕ → Option (List ℕ)) → Option (List ℕ) → Option (List ℕ) → Type 0

@@ -10,6 +10,7 @@ mod refusal;
 mod request;
 mod straight;
 mod text;
+mod tracing;
 mod words;
 
 use adapters::{FileShelf, StreamSink};

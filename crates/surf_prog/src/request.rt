@@ -20,7 +20,8 @@ use crate::straight::bytes::code_of;
 use crate::straight::code::{StraightCode, straight_code};
 use crate::straight::graph::straight_graph;
 use crate::text::slice_text;
-use crate::words::{Request, Task, request_of};
+use crate::tracing::tracing;
+use crate::words::{Request, RunOptions, Task, request_of};
 use command_words::{Entry, WordsError};
 use elf32::{ElfError, read_image};
 use ia32_types::Instr;
@@ -133,6 +134,19 @@ fn list_reply(
     Ok(listing(alloc, image, first, steps)?)
 }
 
+// The text of a run of an image that is entered at this place.
+fn trace_reply(
+    alloc: Global,
+    image: &Image,
+    place: u32,
+    options: &RunOptions,
+) -> Result<Vec<u8>, NoReply>
+    requires { IsImage image.now }
+    ensures { RepliesFrom image.now place (λ entry. kinds.Trace entry options.now) result }
+{
+    Ok(tracing(alloc, image, place, options)?)
+}
+
 // The image of a file.
 fn image_of(alloc: Global, file: &[u8]) -> Result<Image, NoReply>
     requires { length file.now ≤ image_limit }
@@ -161,6 +175,10 @@ fn reply(alloc: Global, file: &[u8], task: &Task) -> Result<Vec<u8>, NoReply>
         Task::List { entry, from, steps } => {
             let place = found_entry(&image, entry)?;
             list_reply(alloc, &image, place, *from, *steps)
+        }
+        Task::Trace { entry, options } => {
+            let place = found_entry(&image, entry)?;
+            trace_reply(alloc, &image, place, options)
         }
     }
 }

@@ -65,7 +65,8 @@ sum|slice a --at 0x1 --round 1|,,|2||surf: words
 sum|slice a --at 0x1 --round 0 --skip-sp|,,|2||surf: words
 sum|slice a --at 12 --round 0|,,|2||surf: words
 sum|values a --at 0x1 --round 0|,,|2||surf: words
-sum|trace a|,,|2||surf: words
+sum|trace a --at 0x08049000|,,|2||surf: words
+sum|trace a --extern puts|,,|2||surf: words
 sum|serve a s|,,|2||surf: words
 sum|nothing a|,,|2||surf: words
 sum|list a b|,,|2||surf: words
@@ -96,6 +97,18 @@ two|list a|,,|0|08049000 mov eax, 0x5/08049005 ret/end 2|
 two @108 06|list a|,,|0|end 0|
 sum @68 04 00 00 00 04 @84 B8 05 00 00|list a|,,|0|end 0|
 sum @68 03 00 00 00 03 @84 FF FF C3|list a|,,|0|end 0|";
+
+/// Runs of the machine.
+const TRACES: &str = "\
+sum|trace a|,,|0|trace 08049000/0 08049000/1 08049005/2 0804900a 0/3 0804900c 1 2/4 0804900e/end return 5 steps|
+sum|trace a --steps 2 --seed 7|,,|0|trace 08049000/0 08049000/1 08049005/end limit 2 steps|
+sum|trace a --entry 0x0804900e|,,|0|trace 0804900e/0 0804900e/end return 1 steps|
+sum|trace a --entry 0x08049100|,,|5||surf: absent entry
+sum @68 06 00 00 00 06 @84 A3 00 00 00 00 C3|trace a|,,|0|trace 08049000/end fault 0 steps|
+sum @68 01 00 00 00 01 @84 F4|trace a --extern puts:stop|,,|0|trace 08049000/0 08049000/end halt 1 steps|
+sum @68 03 00 00 00 03 @84 50 59 C3|trace a|,,|0|trace 08049000/0 08049000/1 08049001 0/2 08049002 1/end return 3 steps|
+sum @68 03 00 00 00 03 @84 50 59 C3|trace a --skip-sp|,,|0|trace 08049000/0 08049000/1 08049001 0/2 08049002/end return 3 steps|
+sum|trace a|,3,|6|trace 08049000/0 08049000|surf: output";
 
 /// Puts a byte at a place of some bytes, or behind them.
 fn put(bytes: &mut Vec<u8>, at: usize, byte: u8) -> Result<(), AllocError> {
@@ -200,7 +213,7 @@ fn holds(alloc: Global, row: &str) -> Result<bool, AllocError> {
 
 #[test]
 fn requests(rt: HostRuntime) -> Result<(), AllocError> {
-    for table in [SLICES, STRAIGHT, FAULTS, REFUSED, LISTS] {
+    for table in [SLICES, STRAIGHT, FAULTS, REFUSED, LISTS, TRACES] {
         for row in table.lines() {
             assert!(rt; holds(rt.alloc(), row)?, "{row}");
         }

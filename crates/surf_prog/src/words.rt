@@ -2,9 +2,10 @@
 ghost use Rattle.std.specs.Prelude.{◌≡◌, map};
 ghost use Rattle.std.specs.String.{string_bytes};
 ghost use Rattle.command_words.specs.Reading.{Tells};
-ghost use Rattle.surf_prog.specs.Words.{has_slice as has_slice_spec, slice_asked as slice_spec, list_asked as list_spec, line_asked as line_spec, request_of as request_spec};
+ghost use Rattle.surf_prog.specs.Words.{has_slice as has_slice_spec, slice_asked as slice_spec, list_asked as list_spec, trace_asked as trace_spec, line_asked as line_spec, request_of as request_spec};
 
-use command_words::{CommandLine, Entry, Options, Text, WordsError, parse};
+use command_words::{CommandLine, Entry, ExternKind, Options, Text, WordsError, parse};
+use item_list::Items;
 use std::alloc::Global;
 
 /// What is asked of an image, and where it is entered, if not where its file says.
@@ -22,6 +23,24 @@ pub enum Task {
         from: Option<u32>,
         steps: u32,
     },
+    /// One run of the machine.
+    Trace {
+        entry: Option<Entry>,
+        options: RunOptions,
+    },
+}
+
+/// How a program is run.
+#[derive(Drop)]
+pub struct RunOptions {
+    /// Whether dependences by ESP are left out.
+    pub skip_sp: bool,
+    /// The greatest number of steps.
+    pub steps: u32,
+    /// What the choices are drawn from.
+    pub seed: u32,
+    /// The kinds of externs; of parts with one name the last counts.
+    pub externs: Items<ExternKind>,
 }
 
 /// What the words ask for.
@@ -67,6 +86,27 @@ fn list_asked(image: Text, from: Option<u32>, options: Options) -> Request
     Request { name: image, task }
 }
 
+// Of traces there are those that ask for no dynamic slice.
+fn trace_asked(image: Text, at: Option<u32>, options: Options) -> Option<Request>
+    ensures { result ≡ trace_spec image at options }
+{
+    match at {
+        Some(_) => None,
+        None => {
+            let task = Task::Trace {
+                entry: options.entry,
+                options: RunOptions {
+                    skip_sp: options.skip_sp,
+                    steps: options.steps,
+                    seed: options.seed,
+                    externs: options.externs,
+                },
+            };
+            Some(Request { name: image, task })
+        }
+    }
+}
+
 // What a task and its options ask for, if there is such a task.
 fn line_asked(line: CommandLine) -> Option<Request>
     ensures { result ≡ line_spec line }
@@ -75,6 +115,7 @@ fn line_asked(line: CommandLine) -> Option<Request>
     match task {
         command_words::Task::Slice { image, at } => slice_asked(image, at, options),
         command_words::Task::List { image, at } => Some(list_asked(image, at, options)),
+        command_words::Task::Trace { image, at } => trace_asked(image, at, options),
         _ => None,
     }
 }

@@ -9,7 +9,7 @@ use Rattle.ia32_types.specs.declared.Instr.{Instr}
 use Rattle.flow_graph.specs.declared.graph.FlowNode.{FlowNode}
 use Rattle.flow_graph.specs.FlowGraph.{Has, IsStep}
 use Rattle.surf_prog.specs.Straight.Code.{straight_node, nodes_from, straight_graph}
-use Rattle.surf_prog.proofs.RisingLists.{contains_here, contained}
+use Rattle.ia32_run.proofs.RisingLists.{contains_here, contained}
 
 -- where control goes after node n, by the instruction that follows it
 abbrev pub next_of : ℕ → Option Instr → List ℕ

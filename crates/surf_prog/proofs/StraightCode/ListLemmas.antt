@@ -7,7 +7,7 @@ use Rattle.ia32_types.specs.declared.Instr.{Instr}
 use Rattle.ia32_types.specs.Spells.{Spells, Begins}
 use Rattle.ia32_types.proofs.SpellsLemmas.{not_empty}
 use Rattle.surf_prog.specs.Straight.Code.{Lists, IsStraight, is_move_or_add, is_return, names_esp, most_instructions}
-pub use Rattle.surf_prog.proofs.OneBegins.{one_begins}
+pub use Rattle.ia32_fetch.proofs.OneBegins.{one_begins}
 
 -- where an instruction stands, and that it has a byte
 pub begins_at : (code : List ℕ) (at : ℕ) (i : Instr) → Begins code at i → i.at ≡ at

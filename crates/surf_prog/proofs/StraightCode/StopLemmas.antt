@@ -4,7 +4,7 @@ use Rattle.std.proofs.lemmas.Bool.{false≢true}
 use Rattle.ia32_types.specs.declared.Instr.{Instr}
 use Rattle.ia32_types.specs.Spells.{Begins}
 use Rattle.surf_prog.specs.Straight.Code.{Lists, IsStraight, StepStands, NoRowStands, StopsWithin, StopsAt, is_move_or_add, is_return, names_esp, most_instructions}
-use Rattle.surf_prog.proofs.OneBegins.{one_begins}
+use Rattle.ia32_fetch.proofs.OneBegins.{one_begins}
 use Rattle.surf_prog.proofs.StraightCode.ListLemmas.{not_both}
 
 -- -- What stands at a place

@@ -1,0 +1,16 @@
+use Rattle.std.proofs.Common.{◌+◌, ◌*◌, ◌∙◌, List, ℕ, length, ap, arith}
+use Rattle.surf_prog.proofs.TracingLaws.{seeds_long, are_known, few_steps}
+use Rattle.surf_prog.proofs.tracing.tracing.Goals as goal
+
+pub trace-requires-clause-known : goal.trace-requires-clause-known
+trace-requires-clause-known c = are_known c.args.image.now c.args.place c.as_slice.result.now c.in_ok-settings.settings c.in_ok-settings.ensures
+
+pub trace-requires-clause-enough : goal.trace-requires-clause-enough
+trace-requires-clause-enough c =
+    let long = ap (λ (xs : List ℕ). length xs) (c.deref.ensures.value ∙ c.in_ok-words.ensures) ∙ seeds_long (8 * (c.args.options.now.steps + 2)) c.args.options.now.seed in
+    omega arith
+
+pub trace_text-requires : goal.trace_text-requires
+trace_text-requires c =
+    let short = few_steps c.args.image.now c.in_ok-settings.settings c.deref.result.now c.args.options.now.steps c.in_ok-log.log c.in_ok-log.ensures in
+    omega arith
