@@ -1,0 +1,14 @@
+pub mod LoopLemmas
+pub mod NumberLemmas
+pub mod PickLemmas
+pub mod CellLemmas
+pub mod RiseLemmas
+pub mod MemberLemmas
+pub mod RowLemmas
+pub mod SetLaws
+pub mod SetLemmas
+pub mod RowTests
+pub mod CoreLemmas
+pub mod CorePlaceLemmas
+pub mod KeptLemmas
+pub mod NodeLemmas

@@ -1,0 +1,14 @@
+pub mod Places
+pub mod Reach
+pub mod CellSets
+pub mod Forms
+pub mod Rows
+pub mod Rising
+pub mod Cores
+pub mod CoreSets
+pub mod Sets
+pub mod NodeSets
+pub mod Next
+pub mod Flow
+pub mod Facts
+pub mod Kept

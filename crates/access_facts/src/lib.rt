@@ -1,0 +1,23 @@
+//! What accesses to memory say of a map from nodes to abstract states: which places each node of its flow graph may use, may define
+//! and must define, and where memory is to be cut.
+#![tactic(auto)]
+
+mod calls;
+mod cells;
+mod core_sets;
+mod counts;
+mod ends;
+mod facts;
+mod graph_cells;
+mod kept;
+mod laws;
+mod next;
+mod node;
+mod numbers;
+mod places;
+mod reach;
+mod rows;
+mod sets;
+
+pub use laws::{must_definitions_are_definitions, places_of_cells, places_rise};
+pub use reach::{Reach, reaches};
