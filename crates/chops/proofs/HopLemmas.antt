@@ -1,5 +1,5 @@
 -- Hops along a path.
-use Rattle.std.proofs.Common.{◌≡◌, ℕ, ◌<◌, Option, Some, None, List, [], ◌∷◌, ◌++◌, reverse, refl, sym, ◌∙◌, ap, subst}
+use Rattle.std.proofs.Common.{◌≡◌, ℕ, Option, Some, None, List, [], ◌∷◌, ◌++◌, reverse, refl, sym, ◌∙◌, ap, subst}
 use Rattle.std.proofs.lemmas.List.{reverse-append, append_assoc}
 use Rattle.flow_graph.specs.declared.graph.FlowNode.{FlowNode}
 use Rattle.chops.specs.declared.hops.Hop.{Hop}

@@ -1,6 +1,6 @@
 -- Words of bits over branches and flooded nodes.
-use Rattle.std.proofs.Common.{◌≡◌, ◌≢◌, ⊎_elim, ℕ, ◌+◌, ◌<◌, ◌^◌, ◌/◌, ◌%◌, Bool, Option, Some, None, List, length, get_or, sym, ◌∙◌, subst, arith, IsTrue, eq-eqb, eqb-true}
-use Rattle.std.specs.Prelude.{◌↔◌, ◌==◌, Contains, slice_get, slice_index, IsSomeAnd, bit_or, bit_and}
+use Rattle.std.proofs.Common.{◌≡◌, ◌≢◌, ⊎_elim, ℕ, ◌+◌, ◌<◌, Bool, Option, Some, None, List, length, get_or, sym, ◌∙◌, subst, arith, IsTrue}
+use Rattle.std.specs.Prelude.{◌↔◌, Contains, slice_get, slice_index, IsSomeAnd, bit_or, bit_and}
 use Rattle.std.proofs.lemmas.List.{get_or_default}
 use Rattle.std.proofs.lemmas.Bool.{cases_eq}
 use Rattle.std.proofs.lemmas.List.Elements.{Contains-get_or}

@@ -5,7 +5,6 @@ use Rattle.std.proofs.lemmas.Bool.{cases_eq}
 use Rattle.std.proofs.lemmas.List.{get_or_default, take-append-drop}
 use Rattle.std.proofs.lemmas.List.Elements.{Contains-append_left, Contains-append_right, Contains-append_cases, Contains-push, Contains-push_cases, Contains-get_or}
 use Rattle.flow_graph.specs.declared.graph.FlowNode.{FlowNode}
-use Rattle.flow_graph.specs.FlowGraph.{IsBranch}
 use Rattle.flow_graph.specs.Rows.{IsBit}
 use Rattle.flow_graph.proofs.GraphLaws.{Has-within}
 use Rattle.control_walks.specs.ControlWalks.{Controls}

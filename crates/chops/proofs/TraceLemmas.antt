@@ -1,6 +1,6 @@
 -- From the nearest node back, each time to the least that serves: the shortest path.
-use Rattle.std.proofs.Common.{◌≡◌, ◌≢◌, ◌⊎◌, inl, inr, ⊎_elim, ℕ, ◌+◌, ◌<◌, ◌≤◌, Bool, true, false, List, [], ◌∷◌, ◌++◌, length, get_or, Some, refl, sym, ◌∙◌, ap, subst, arith, IsTrue}
-use Rattle.std.specs.Prelude.{◌↔◌, All, Contains, slice_get}
+use Rattle.std.proofs.Common.{◌≡◌, ◌≢◌, ◌⊎◌, inl, inr, ⊎_elim, ℕ, ◌+◌, ◌<◌, ◌≤◌, Bool, List, [], ◌∷◌, ◌++◌, length, get_or, refl, sym, ◌∙◌, ap, subst, arith, IsTrue}
+use Rattle.std.specs.Prelude.{◌↔◌, All, Contains}
 use Rattle.std.proofs.lemmas.Bool.{cases_eq}
 use Rattle.std.proofs.lemmas.List.{get_or_default}
 use Rattle.std.proofs.lemmas.List.Elements.{All-cons, Contains-get_or}
@@ -8,7 +8,7 @@ use Rattle.flow_graph.specs.declared.graph.FlowNode.{FlowNode}
 use Rattle.flow_graph.specs.FlowGraph.{IsAt}
 use Rattle.flow_graph.proofs.GraphLaws.{Has-at, Has-from, Has-within, slice_get-at}
 use Rattle.chops.specs.Following.{IsAfter}
-use Rattle.chops.specs.Paths.{ComesTo, start_of, ComesIn, IsTrace, TakesLeast, IsLeastTrace, IsShortestTrace}
+use Rattle.chops.specs.Paths.{ComesTo, start_of, ComesIn, IsTrace, TakesLeast, IsShortestTrace}
 use Rattle.chops.specs.Counts.{AreFewest, IsBack, IsLeastBack, Falls, FallsFrom, IsNearest}
 use Rattle.chops.proofs.PathLemmas.{least_is_shortest}
 use Rattle.chops.proofs.CountLemmas.{at_most_in, in_reach}

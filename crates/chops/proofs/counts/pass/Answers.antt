@@ -1,4 +1,4 @@
-use Rattle.std.proofs.Common.{length, get_or, refl, arith}
+use Rattle.std.proofs.Common.{get_or, refl, arith}
 use Rattle.chops.proofs.CountLemmas.{passed_all, passed_more, passed_none}
 use Rattle.chops.proofs.counts.pass.Goals as goal
 

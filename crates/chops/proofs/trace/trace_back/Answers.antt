@@ -1,4 +1,4 @@
-use Rattle.std.proofs.Common.{ℕ, ◌<◌, arith, get_or}
+use Rattle.std.proofs.Common.{◌<◌, arith, get_or}
 use Rattle.flow_graph.specs.FlowGraph.{IsAt}
 use Rattle.chops.proofs.TraceLemmas.{before_is, falling_more}
 use Rattle.chops.proofs.trace.trace_back.Goals as goal
