@@ -247,3 +247,15 @@ sites_push g kinds i sites new slice site entries exits same entries_are exits_a
       exits = λ x. subst (λ (xs : List ℕ). Contains xs x ↔ ((x < length g) × IsReturn g kinds x (get_or slice i (0, 0)).1)) (sym exits_are) (returns x);
     }))
     before
+
+-- ---- numbers below a bound
+
+pub below_more : (pairs : List (ℕ × ℕ)) (count i : ℕ) → i < length pairs → ((get_or pairs i (0, 0)).0 < count) × ((get_or pairs i (0, 0)).1 < count) → ((k : ℕ) (d : ℕ × ℕ) → k < i → ((get_or pairs k d).0 < count) × ((get_or pairs k d).1 < count))
+    → (k : ℕ) (d : ℕ × ℕ) → k < i + 1 → ((get_or pairs k d).0 < count) × ((get_or pairs k d).1 < count)
+below_more pairs count i within now before k d low =
+    ⊎_elim
+    (λ (same : k ≡ i).
+    let at : get_or pairs i d ≡ get_or pairs i (0, 0) = get_or_default pairs i d (0, 0) within in
+    subst (λ j. ((get_or pairs j d).0 < count) × ((get_or pairs j d).1 < count)) (sym same) (subst (λ (p : ℕ × ℕ). (p.0 < count) × (p.1 < count)) (sym at) now))
+    (λ other. before k d (let off : k ≢ i = other in omega (arith, low, off)))
+    (cases_eq k i)

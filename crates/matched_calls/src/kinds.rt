@@ -1,7 +1,7 @@
 //! What kinds of steps a graph has.
-ghost use Rattle.std.specs.Prelude.{◌↔◌, ◌<◌, Contains, IsTrue, length};
+ghost use Rattle.std.specs.Prelude.{◌↔◌, ◌<◌, All, Contains, IsTrue, length};
 ghost use Rattle.flow_graph.specs.FlowGraph.{IsStep};
-ghost use Rattle.matched_calls.specs.Phases.{IsFlow};
+ghost use Rattle.matched_calls.specs.Matched.{HasKinds};
 
 use flow_graph::FlowNode;
 use item_list::Items;
@@ -40,4 +40,43 @@ pub(crate) fn is_step(nodes: &[FlowNode], from: u32, to: u32) -> bool
         Some(node) => node.next.as_slice().contains(&to),
         None => false,
     }
+}
+
+// Whether two numbers are below a bound.
+fn is_below(from: u32, to: u32, count: usize) -> bool
+    ensures { IsTrue result ↔ ((from < count) × (to < count)) }
+{
+    if from as usize >= count {
+        return false;
+    }
+    (to as usize) < count
+}
+
+// Whether all numbers of some pairs are below a bound.
+fn are_below(pairs: &[(u32, u32)], count: usize) -> bool
+    ensures { IsTrue result ↔ All (λ pair. (pair.0 < count) × (pair.1 < count)) pairs.now }
+{
+    for pair in pairs {
+        if !is_below(pair.0, pair.1, count) {
+            return false;
+        }
+    }
+    true
+}
+
+// Whether all three hold.
+fn all_three(one: bool, two: bool, three: bool) -> bool
+    ensures { IsTrue result ↔ (IsTrue one × IsTrue two × IsTrue three) }
+{
+    one && two && three
+}
+
+/// Whether all numbers in some kinds are those of nodes of a graph.
+pub fn are_kinds_of(nodes: &[FlowNode], kinds: &StepKinds) -> bool
+    ensures { IsTrue result ↔ HasKinds nodes.now kinds.now }
+{
+    let calls = are_below(kinds.calls.as_slice(), nodes.len());
+    let returns = are_below(kinds.returns.as_slice(), nodes.len());
+    let after = are_below(kinds.after.as_slice(), nodes.len());
+    all_three(calls, returns, after)
 }

@@ -15,6 +15,6 @@ mod slice;
 mod summary;
 
 pub use graph::{MatchedGraph, matched_graph};
-pub use kinds::StepKinds;
+pub use kinds::{StepKinds, are_kinds_of};
 pub use laws::matched_laws;
 pub use slice::{MatchedError, matched_backward};
