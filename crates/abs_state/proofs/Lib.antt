@@ -9,3 +9,4 @@ pub mod TouchLemmas
 pub mod EqualLemmas
 pub mod RangeLemmas
 pub mod StartLemmas
+pub mod FormLemmas

@@ -5,3 +5,4 @@ pub mod Reads
 pub mod Writes
 pub mod Same
 pub mod Ranges
+pub mod Laws

@@ -7,6 +7,7 @@ mod changes;
 mod facts;
 mod initial;
 mod joins;
+mod laws;
 mod parts;
 mod puts;
 mod ranges;
@@ -17,6 +18,7 @@ mod state;
 mod touching;
 mod writes;
 
+pub use laws::{joins_keep_form, joins_keep_rising, widenings_keep_form};
 pub use parts::{with_part, with_second_byte};
 pub use ranges::Piece;
 pub use reads::{cell_at, read_as};
