@@ -36,8 +36,9 @@ use Rattle.call_soundness.proofs.ContentLaws.{fetched_stands}
 use Rattle.call_soundness.proofs.EnterLaws.{kept_slots}
 use Rattle.ia32_semantics.specs.CallModel.{IsLaidOut}
 use Rattle.image_map.specs.Whole.{IsImage}
-use Rattle.ia32_semantics.specs.Step.{IsPlaceAfter}
-use Rattle.ia32_semantics.specs.Step.{Act}
+use Rattle.ia32_semantics.specs.Outcome.{is_in_stack}
+use Rattle.ia32_semantics.specs.Step.{Act, HALT, IsPlaceAfter, is_single, returns_to_halt}
+use Rattle.step_soundness.proofs.AdvanceLaws.{place_word}
 use Rattle.ia32_semantics.proofs.EffectLemmas.{or_false_left, or_false_right}
 use Rattle.std.proofs.lemmas.Bool.Decides.{Decides-int_eq}
 use Rattle.call_soundness.proofs.ReturnLaws.{returned_states_stand}
@@ -114,6 +115,58 @@ pub record Leaves (image : Image) (settings : Settings) (states : States) (n : N
   pub leads : (call : Node) (b : AbsState) → state_in call states.placed ≡ Some b → calls_at states call b (content_at image settings call.at) n.context.proc ≡ true
       → pushed states.lane call.at n.context.proc call.context ≡ n.context → call.at ≡ ending.site → call.context.proc ≡ parent.callee
       → IsListed (at_node (record call { at = o.after.eip }) next) (successors image settings states n a)
+
+-- the bytes of the stack below a limit are forgotten, and no other
+pub kept_above : (slot limit y : ℕ) (mapped : Bool) → (is_in_stack slot y ≡ true → limit ≤ y) → cond mapped (is_in_stack slot y && nat_lt y limit) false ≡ false
+kept_above slot limit y mapped above =
+    cond_both mapped (is_in_stack slot y && nat_lt y limit) false (λ b. b ≡ false) (λ _. by (is_in_stack slot y) refl) (λ _. refl)
+  where
+    by : (b : Bool) → is_in_stack slot y ≡ b → (b && nat_lt y limit) ≡ false
+    by true f = le-ltb y limit (above f)
+    by false f = refl
+
+-- A step that goes to the place in the return slot of the newest activation, and isn't the last of a run.
+module _ (image : Image) (o : Occurrence Act) (whole : IsWhole image o.before) (newest : Activation) (others : List Activation) (activations : o.before.activations ≡ newest ∷ others)
+    (place : ℕ) (is_place : word_at o.before.memory newest.base ≡ Some place) (eip : o.after.eip ≡ place % 4294967296) where
+  chain_at : (xs : List Activation) → others ≡ xs → AreActivations image o.before.memory o.before.slot (newest ∷ xs)
+  chain_at xs e = subst (AreActivations image o.before.memory o.before.slot) (activations ∙ ap (λ ys. newest ∷ ys) e) whole.activations
+
+  -- the last activation would return to HALT
+  not_alone : returns_to_halt o ≡ false → others ≡ [] → ⊥
+  not_alone not_last none =
+      let chain = chain_at [] none in
+      let is : place ≡ 4294901760 = same_Some place HALT (sym is_place ∙ ap (word_at o.before.memory) chain.0 ∙ chain.1) in
+      let halt : o.after.eip ≡ HALT = eip ∙ (let e : place % 4294967296 ≡ 4294901760 = omega (arith, is) in e) in
+      let single : is_single o.before.activations ≡ true = ap is_single (activations ∙ ap (λ ys. newest ∷ ys) none) in
+      true≢false (sym (and_from (is_single o.before.activations) (o.after.eip == HALT) single (eq-eqb o.after.eip HALT halt)) ∙ not_last)
+
+  -- the caller, which goes on behind its call
+  pub record HasCaller : Type 0 where
+    pub parent : Activation
+    pub older : List Activation
+    pub are : others ≡ parent ∷ older
+    pub above : newest.base + 4 ≤ parent.base
+    pub high : parent.base ≤ o.before.slot
+    pub behind : IsPlaceAfter image newest.site o.after.eip
+
+  pub has_caller : returns_to_halt o ≡ false → HasCaller
+  has_caller not_last = by others refl
+    where
+      by : (xs : List Activation) → others ≡ xs → HasCaller
+      by [] e = absurd (not_alone not_last e)
+      by (parent ∷ older) e =
+          let chain = chain_at (parent ∷ older) e in
+          let call = chain.2.1 in
+          let is : place ≡ next_place call.call = same_Some place chain.2.0 (sym is_place ∙ chain.2.2) ∙ call.place_is in
+          let goes : o.after.eip ≡ next_place call.call = eip ∙ ap (λ k. k % 4294967296) is ∙ place_word call.call in
+          record {
+            parent = parent;
+            older = older;
+            are = e;
+            above = chain.1;
+            high = (base_bounds image o.before.memory o.before.slot parent older chain.3).0;
+            behind = subst (λ x. IsPlaceAfter image newest.site x) (call.place_is ∙ sym goes) call;
+          }
 
 -- From a state m with the place and the calls of the state before, for which an abstract state stands, the newest activation ends.
 module _ (image : Image) (settings : Settings) (states : States) (n : Node) (a b : AbsState) (o : Occurrence Act) (m : State) (ending parent : Activation) (older : List Activation) (extra : ℕ)

@@ -46,6 +46,8 @@ use Rattle.abs_steps.specs.Calls.{return_slot, remainder, moved_align, new_link,
 use Rattle.call_soundness.specs.Calls.{IsCalled}
 use Rattle.call_soundness.specs.Laws.{CalledStatesStand}
 use Rattle.call_soundness.proofs.ListLaws.{number_keeps, number_has, link_keeps, link_has, links_keep, links_have, without_keeps, links_grow, only_other, only_same, agreed_left, agreed_right}
+use Rattle.call_soundness.proofs.ThingLaws as things
+use Rattle.call_soundness.proofs.ThingLaws.{head_is, tail_is, as_itself}
 use Rattle.call_soundness.proofs.ValueLaws.{Stands, moved_value}
 
 -- -- The form of values that age
@@ -67,13 +69,13 @@ unfolding age
 age_form young old Top cv = tt
 age_form young old (Parts ps) cv = settled_canonical _ (renamed_form young old ps (without_region young ps) cv (without_form young ps cv))
 
-age_top : (young old : RegionId) (v : Values) → v ≡ Top → age young old v ≡ Top
+pub age_top : (young old : RegionId) (v : Values) → v ≡ Top → age young old v ≡ Top
 unfolding age
 age_top young old v e = ap (age young old) e
 
 -- -- Regions that aren't the newest activation
 
-apart_from : (r q : RegionId) → (r ≡ q → ⊥) → same_region r q ≡ false
+pub apart_from : (r q : RegionId) → (r ≡ q → ⊥) → same_region r q ≡ false
 apart_from r q not_ = by (same_region r q) refl
   where
     by : (b : Bool) → same_region r q ≡ b → b ≡ false
@@ -107,19 +109,10 @@ module _ (lane : ℕ) (a : AbsState) (s t : State) (new newest : Activation) (ot
   c = new.callee
 
   abbrev lift : Thing → Thing
-  lift TheImage = TheImage
-  lift (ActivationAt newer x older) = ActivationAt (new ∷ newer) x older
-  lift (BlockAt before x later) = BlockAt before x later
+  lift u = things.lift new u
 
   lift_in : (u : Thing) → IsIn (world_of s) u → IsIn (world_of t) (lift u)
-  lift_in TheImage h = tt
-  lift_in (ActivationAt newer x older) h = call.activations ∙ ap (λ xs. new ∷ xs) h
-  lift_in (BlockAt before x later) h = (call.allocs ∙ h.0, h.1)
-
-  lift_base : (u : Thing) → base_of (lift u) ≡ base_of u
-  lift_base TheImage = refl
-  lift_base (ActivationAt newer x older) = refl
-  lift_base (BlockAt before x later) = refl
+  lift_in u h = things.lift_in new (world_of s) (world_of t) call.activations call.allocs u h
 
   -- a procedure that has an activation is live
   live_here : (newer older : List Activation) (x : Activation) → s.activations ≡ newer ++ (x ∷ older) → (c == x.callee) ≡ true → has_procedure c a.live ≡ true
@@ -206,7 +199,7 @@ module _ (lane : ℕ) (a : AbsState) (s t : State) (new newest : Activation) (ot
           is_in = is_in;
           region = refl;
           lies = record {
-            start = of.lies.start ∙ ap (λ b. pos b +ℤ x.start) (lift_base u);
+            start = of.lies.start ∙ ap (λ b. pos b +ℤ x.start) (things.lift_base new u);
             end = of.lies.end;
             owned = λ k lt. owns_back u (at + k) (of.lies.owned k lt);
           };
@@ -220,22 +213,6 @@ module _ (lane : ℕ) (a : AbsState) (s t : State) (new newest : Activation) (ot
         → HasValue lane (world_of s) (little_endian bytes) (value_at a (as_of (region_of lane u) x))
     old_value u is_in x at len bytes of b =
         stands.cells u (as_of (region_of lane u) x) at len bytes (cell_back u is_in x at len of) (bytes_back u is_in x at len bytes of b)
-
-    -- the region of a thing after the call: what it was, or that of older activations
-    region_cases : (u : Thing) → (region_of lane (lift u) ≡ region_of lane u) ⊎ ((region_of lane u ≡ Frame c) × (region_of lane (lift u) ≡ OldFrame c))
-    region_cases TheImage = inl refl
-    region_cases (BlockAt before x later) = inl refl
-    region_cases (ActivationAt newer x older) = by (c == x.callee) refl (is_called x.callee newer)
-      where
-        by : (hit : Bool) → (c == x.callee) ≡ hit → (called : Bool)
-            → (cond (hit || called) (OldFrame x.callee) (Frame x.callee) ≡ cond called (OldFrame x.callee) (Frame x.callee))
-            ⊎ ((cond called (OldFrame x.callee) (Frame x.callee) ≡ Frame c) × (cond (hit || called) (OldFrame x.callee) (Frame x.callee) ≡ OldFrame c))
-        by true e true = inl refl
-        by true e false = let same : x.callee ≡ c = sym (eqb-true c x.callee e) in inr (ap Frame same, ap OldFrame same)
-        by false e called = inl refl
-
-    as_itself : (r : RegionId) (x : Cell) → r ≡ x.region → as_of r x ≡ x
-    as_itself r x e = λ i. record x { region = e i }
 
     -- -- What was there before
 
@@ -304,23 +281,10 @@ module _ (lane : ℕ) (a : AbsState) (s t : State) (new newest : Activation) (ot
       canonical_at : (x : Cell) → CanonicalValues (value_at aged x)
       canonical_at x = value_canonical x aged.cells aged_form_of
 
-      was_older : (u : Thing) → IsIn (world_of s) u → region_of lane u ≡ OldFrame c → has_procedure c a.older ≡ true
-      was_older TheImage h e = absurd (cc)
-      was_older (BlockAt before x later) h e = absurd (no_frame (has_key lane (key_of lane x) later) (key_of lane x) e)
-        where
-          no_frame : (b : Bool) (k : ℕ) → cond b (OldHeap k) (Heap k) ≡ OldFrame c → ⊥
-          no_frame true k e = cc
-          no_frame false k e = cc
-      was_older (ActivationAt newer x older) h e = of (is_called x.callee newer) refl e
-        where
-          of : (b : Bool) → is_called x.callee newer ≡ b → cond b (OldFrame x.callee) (Frame x.callee) ≡ OldFrame c → has_procedure c a.older ≡ true
-          of true f g = let same : x.callee ≡ c = cc in subst (λ q. has_procedure q a.older ≡ true) same (stands.older newer older x h f)
-          of false f g = absurd (cc)
-
       -- a cell of older activations
       older_cell : (u : Thing) → IsIn (world_of s) u → (x : Cell) (n : ℕ) → x.region ≡ OldFrame c → region_of lane (lift u) ≡ x.region → HasValue lane (world_of s) n (value_at a (as_of (region_of lane u) x))
           → HasValue lane (world_of t) n (older_value aged c x)
-      older_cell u is_in x n old here h = by (region_cases u)
+      older_cell u is_in x n old here h = by (things.region_cases new lane u)
         where
           both_canonical : CanonicalValues (value_at aged (as_of (Frame c) x))
           both_canonical = canonical_at (as_of (Frame c) x)
@@ -334,7 +298,7 @@ module _ (lane : ℕ) (a : AbsState) (s t : State) (new newest : Activation) (ot
               let value = aged_cell n x (subst (λ y. HasValue lane (world_of s) n (value_at a y)) (as_itself (region_of lane u) x (sym same ∙ here)) h) in
               cond_both (has_procedure c a.older) (held_by x (join (value_at aged x) (value_at aged (as_of (Frame c) x)))) (value_at aged (as_of (Frame c) x)) (HasValue lane (world_of t) n)
               (λ _. held_has lane t n x _ (join_has_left lane (world_of t) n (value_at aged x) (value_at aged (as_of (Frame c) x)) (canonical_at x) both_canonical value))
-              (λ none. absurd (true≢false (sym (was_older u is_in (sym same ∙ here ∙ old)) ∙ none)))
+              (λ none. absurd (true≢false (sym (things.was_older lane a s stands c u is_in (sym same ∙ here ∙ old)) ∙ none)))
 
       pub old_grown : has_procedure c a.live ≡ true → IsGrown (grown_old c cut)
       old_grown here =
@@ -346,14 +310,14 @@ module _ (lane : ℕ) (a : AbsState) (s t : State) (new newest : Activation) (ot
                 rebuilt_value (HasValue lane (world_of t) n) x (λ y. cond (is_in (OldFrame c) y) (older_value aged c y) (value_at aged y)) (aged.cells ++ moved (Frame c) (OldFrame c) aged.cells) tt
                 (cond_both (is_in (OldFrame c) x) (older_value aged c x) (value_at aged x) (HasValue lane (world_of t) n)
                 (λ yes. older_cell u within x n (same_region-equal x.region (OldFrame c) yes) of.region value)
-                (λ other. aged_cell n x (subst (λ y. HasValue lane (world_of s) n (value_at a y)) (as_itself (region_of lane u) x (stays u (region_cases u) x of.region other)) value)));
+                (λ other. aged_cell n x (subst (λ y. HasValue lane (world_of s) n (value_at a y)) (as_itself (region_of lane u) x (stays u (things.region_cases new lane u) x of.region other)) value)));
             flags = refl;
             root = refl;
             blocks = refl;
             live = λ q h. h;
             older = λ newer older x split h. grown_older x (c == x.callee) refl (is_called x.callee newer) h (λ f. stands.older newer older x split f);
             links = λ newer older child parent split. grown_link child (c == child.callee) refl (is_called child.callee newer) (pos child.base -ℤ pos parent.base) parent.callee (stands.links newer older child parent split);
-            aligns = λ u n is_in e. grown_align u (region_cases u) n is_in e;
+            aligns = λ u n is_in e. grown_align u (things.region_cases new lane u) n is_in e;
           }
         where
           stays : (u : Thing) → (region_of lane (lift u) ≡ region_of lane u) ⊎ ((region_of lane u ≡ Frame c) × (region_of lane (lift u) ≡ OldFrame c)) → (x : Cell) → region_of lane (lift u) ≡ x.region
@@ -396,41 +360,9 @@ module _ (lane : ℕ) (a : AbsState) (s t : State) (new newest : Activation) (ot
                   let old : OldFrame c ≡ region_of lane (lift u) = same_region-equal (OldFrame c) (region_of lane (lift u)) f in
                   let here : known_of (OldFrame c) (with_only (OldFrame c) (older_align cut c) a.aligns) ≡ Some n = ap (λ r. known_of r (with_only (OldFrame c) (older_align cut c) a.aligns)) old ∙ e in
                   stands.aligns u n is_in (ap (λ r. known_of r a.aligns) (sym same ∙ sym old)
-                  ∙ old_align_too n (has_procedure c a.older) (was_older u is_in (sym same ∙ sym old)) (only_same (OldFrame c) (older_align cut c) a.aligns n here))
+                  ∙ old_align_too n (has_procedure c a.older) (things.was_older lane a s stands c u is_in (sym same ∙ sym old)) (only_same (OldFrame c) (older_align cut c) a.aligns n here))
 
     -- -- The callee begins
-
-    head_is : (x y : Activation) (xs ys : List Activation) → x ∷ xs ≡ y ∷ ys → x ≡ y
-    head_is x y xs ys e = cc
-
-    tail_is : (x y : Activation) (xs ys : List Activation) → x ∷ xs ≡ y ∷ ys → xs ≡ ys
-    tail_is x y xs ys e = cc
-
-    -- a thing is the callee's activation, or was there before
-    which : (u : Thing) → IsIn (world_of t) u → (u ≡ ActivationAt [] new s.activations) ⊎ ((v : Thing) × IsIn (world_of s) v × (lift v ≡ u))
-    which TheImage h = inr (TheImage, tt, refl)
-    which (BlockAt before x later) h = inr (BlockAt before x later, (sym call.allocs ∙ h.0, h.1), refl)
-    which (ActivationAt [] x older) h =
-        let both : new ∷ s.activations ≡ x ∷ older = sym call.activations ∙ h in
-        inl (λ i. ActivationAt [] (sym (head_is new x s.activations older both) i) (sym (tail_is new x s.activations older both) i))
-    which (ActivationAt (y ∷ ys) x older) h =
-        let both : new ∷ s.activations ≡ y ∷ (ys ++ (x ∷ older)) = sym call.activations ∙ h in
-        inr (ActivationAt ys x older, tail_is new y s.activations (ys ++ (x ∷ older)) both, (λ i. ActivationAt (head_is new y s.activations (ys ++ (x ∷ older)) both i ∷ ys) x older))
-
-    -- none that was there before is the newest activation of the callee
-    not_young : (u : Thing) → region_of lane (lift u) ≡ Frame c → ⊥
-    not_young TheImage e = cc
-    not_young (BlockAt before x later) e = by (has_key lane (key_of lane x) later) e
-      where
-        by : (b : Bool) → cond b (OldHeap (key_of lane x)) (Heap (key_of lane x)) ≡ Frame c → ⊥
-        by true e = cc
-        by false e = cc
-    not_young (ActivationAt newer x older) e = by (c == x.callee) refl (is_called x.callee newer) e
-      where
-        by : (hit : Bool) → (c == x.callee) ≡ hit → (called : Bool) → cond (hit || called) (OldFrame x.callee) (Frame x.callee) ≡ Frame c → ⊥
-        by true f called e = cc
-        by false f true e = cc
-        by false f false e = let same : x.callee ≡ c = cc in true≢false (sym (eq-eqb c x.callee (sym same)) ∙ f)
 
     module _ (d : Division) (p : ℕ) (offset : ℤ) (runs : newest.callee ≡ p) (distance : pos new.base ≡ pos newest.base +ℤ offset) (small : next < 4294967296) (b : AbsState) (g : IsGrown b) where
       abbrev final : AbsState
@@ -464,10 +396,10 @@ module _ (lane : ℕ) (a : AbsState) (s t : State) (new newest : Activation) (ot
           let P = HasValue lane (world_of t) (little_endian bytes) in
           rebuilt_value P x (entered_value d c next b) (record { cell = return_slot c; value = Top } ∷ b.cells) tt
           (cond_both (is_in (Frame c) x) (cond (same_cell x (return_slot c) && is_some (cell_at d (Frame c) (pos 0) 4)) (word_number next) Top) (value_at b x) P
-          (λ yes. absurd (not_young u (of.region ∙ same_region-equal x.region (Frame c) yes))) (λ other. g.cells u within x at len bytes of is))
+          (λ yes. absurd (things.not_newest new lane u (of.region ∙ same_region-equal x.region (Frame c) yes))) (λ other. g.cells u within x at len bytes of is))
 
       all_cells : (u : Thing) (x : Cell) (at len : ℕ) (bytes : List ℕ) → IsCellOf lane t u x at len → bytes_at t.memory at len ≡ Some bytes → HasValue lane (world_of t) (little_endian bytes) (value_at final x)
-      all_cells u x at len bytes of is = by (which u of.is_in)
+      all_cells u x at len bytes of is = by (things.which new (world_of s) (world_of t) call.activations call.allocs u of.is_in)
         where
           by : (u ≡ ActivationAt [] new s.activations) ⊎ ((v : Thing) × IsIn (world_of s) v × (lift v ≡ u)) → HasValue lane (world_of t) (little_endian bytes) (value_at final x)
           by (inl e) = new_cell x at len bytes (subst (λ z. IsCellOf lane t z x at len) e of) is
@@ -550,7 +482,7 @@ module _ (lane : ℕ) (a : AbsState) (s t : State) (new newest : Activation) (ot
               sym (ap unsigned_abs rest) ∙ same_Some (remainder (pos m +ℤ offset) 16) n h
 
       all_aligns : (u : Thing) (n : ℕ) → IsIn (world_of t) u → known_of (region_of lane u) (with_only (Frame c) (moved_align offset (known_of (Frame p) a.aligns)) b.aligns) ≡ Some n → base_of u % 16 ≡ n
-      all_aligns u n within e = by (which u within)
+      all_aligns u n within e = by (things.which new (world_of s) (world_of t) call.activations call.allocs u within)
         where
           by : (u ≡ ActivationAt [] new s.activations) ⊎ ((v : Thing) × IsIn (world_of s) v × (lift v ≡ u)) → base_of u % 16 ≡ n
           by (inl same) =
@@ -560,14 +492,14 @@ module _ (lane : ℕ) (a : AbsState) (s t : State) (new newest : Activation) (ot
           by (inr old) =
               let there : known_of (region_of lane (lift old.0)) (with_only (Frame c) (moved_align offset (known_of (Frame p) a.aligns)) b.aligns) ≡ Some n =
               subst (λ z. known_of (region_of lane z) (with_only (Frame c) (moved_align offset (known_of (Frame p) a.aligns)) b.aligns) ≡ Some n) (sym old.2) e in
-              ap (λ z. base_of z % 16) (sym old.2) ∙ ap (λ k. k % 16) (lift_base old.0)
+              ap (λ z. base_of z % 16) (sym old.2) ∙ ap (λ k. k % 16) (things.lift_base new old.0)
               ∙ g.aligns old.0 n old.1 (only_other (region_of lane (lift old.0)) (Frame c) (moved_align offset (known_of (Frame p) a.aligns)) b.aligns n (apart_of old.0) there)
             where
               apart_of : (v : Thing) → same_region (Frame c) (region_of lane (lift v)) ≡ false
               apart_of v = of (same_region (Frame c) (region_of lane (lift v))) refl
                 where
                   of : (k : Bool) → same_region (Frame c) (region_of lane (lift v)) ≡ k → k ≡ false
-                  of true f = absurd (not_young v (sym (same_region-equal (Frame c) (region_of lane (lift v)) f)))
+                  of true f = absurd (things.not_newest new lane v (sym (same_region-equal (Frame c) (region_of lane (lift v)) f)))
                   of false f = refl
 
       pub entered_stands : StandsFor lane final t

@@ -49,7 +49,7 @@ use Rattle.step_soundness.proofs.WriteLaws.{sets_since}
 use Rattle.ia32_types.specs.declared.Width.TheVariants.{D32}
 use Rattle.call_soundness.specs.Calls.{IsReturned}
 use Rattle.call_soundness.specs.Laws.{only_reads}
-use Rattle.call_soundness.proofs.BackLaws.{Leaves, is_zero, goes_back}
+use Rattle.call_soundness.proofs.BackLaws.{Leaves, HasCaller, has_caller, kept_above, is_zero, goes_back}
 use Rattle.call_soundness.proofs.LeaveLaws.{word_gives}
 use Rattle.call_soundness.proofs.StackLaws.{esp_near}
 
@@ -220,37 +220,20 @@ module _ (image : Image) (settings : Settings) (states : States) (n : Node) (a :
   rest_is f = ap f (sym h.step.after)
 
   memory_others : (y : ℕ) → (is_in_stack o.before.slot y ≡ true → up ≤ y) → o.after.memory y ≡ m.memory y
-  memory_others y above = h.step.memory.others y (free_is ∙ none_free) ∙ ap (λ (t : State). t.memory y) made_is
-    where
-      free_is : is_any h.step.done o.before y ≡ cond (is_some (o.before.memory y)) (is_in_stack o.before.slot y && nat_lt y up) false
-      free_is = ap (λ (x : Outcome). is_any x o.before y) done_reads.is
-
-      none_free : cond (is_some (o.before.memory y)) (is_in_stack o.before.slot y && nat_lt y up) false ≡ false
-      none_free =
-          cond_both (is_some (o.before.memory y)) (is_in_stack o.before.slot y && nat_lt y up) false (λ b. b ≡ false) (λ _. by (is_in_stack o.before.slot y) refl) (λ _. refl)
-        where
-          by : (b : Bool) → is_in_stack o.before.slot y ≡ b → (b && nat_lt y up) ≡ false
-          by true f = le-ltb y up (above f)
-          by false f = refl
+  memory_others y above =
+      h.step.memory.others y (ap (λ (x : Outcome). is_any x o.before y) done_reads.is ∙ kept_above o.before.slot up y (is_some (o.before.memory y)) above)
+      ∙ ap (λ (t : State). t.memory y) made_is
 
   eip_after : o.after.eip ≡ done_reads.place % 4294967296
   eip_after = ap (λ (t : State). t.eip) h.step.after ∙ ap (λ (t : State). t.eip) made_is
 
-  chain_at : (xs : List Activation) → h.known.others ≡ xs → AreActivations image o.before.memory o.before.slot (h.known.newest ∷ xs)
-  chain_at xs e = subst (AreActivations image o.before.memory o.before.slot) (h.known.activations ∙ ap (λ ys. h.known.newest ∷ ys) e) h.known.whole.activations
-
-  not_alone : h.known.others ≡ [] → ⊥
-  not_alone none =
-      let chain = chain_at [] none in
-      let word : word_at o.before.memory (o.before.registers 4) ≡ Some HALT = ap (word_at o.before.memory) (sp_is ∙ chain.0) ∙ chain.1 in
-      let place : done_reads.place ≡ 4294901760 = same_Some done_reads.place HALT (sym done_reads.is_place ∙ word) in
-      let halt : o.after.eip ≡ HALT = eip_after ∙ (let e : done_reads.place % 4294967296 ≡ 4294901760 = omega (arith, place) in e) in
-      let single : is_single o.before.activations ≡ true = ap is_single (h.known.activations ∙ ap (λ ys. h.known.newest ∷ ys) none) in
-      true≢false (sym (and_from (is_single o.before.activations) (o.after.eip == HALT) single (eq-eqb o.after.eip HALT halt)) ∙ not_last)
+  caller : HasCaller image o h.known.whole h.known.newest h.known.others h.known.activations done_reads.place (sym (ap (word_at o.before.memory) sp_is) ∙ done_reads.is_place) eip_after
+  caller = has_caller image o h.known.whole h.known.newest h.known.others h.known.activations done_reads.place (sym (ap (word_at o.before.memory) sp_is) ∙ done_reads.is_place) eip_after not_last
 
   -- -- With a caller
 
-  module _ (parent : Activation) (older : List Activation) (has_parent : h.known.others ≡ parent ∷ older) where
+  module _ (parent : Activation) (older : List Activation) (has_parent : h.known.others ≡ parent ∷ older) (step : h.known.newest.base + 4 ≤ parent.base) (high_base : parent.base ≤ o.before.slot)
+      (behind : IsPlaceAfter image h.known.newest.site o.after.eip) where
     abbrev ending : Activation
     ending = h.known.newest
 
@@ -258,12 +241,12 @@ module _ (image : Image) (settings : Settings) (states : States) (n : Node) (a :
     split = h.known.activations ∙ ap (λ ys. h.known.newest ∷ ys) has_parent
 
     below : ending.base + 4 + 0 ≤ parent.base
-    below = let step : ending.base + 4 ≤ parent.base = (chain_at (parent ∷ older) has_parent).1 in omega (arith, step)
+    below = omega (arith, step)
 
     up_is : up ≡ ending.base + 4 + 0
     up_is =
         let limit = below in
-        let high : parent.base ≤ o.before.slot = (base_bounds image o.before.memory o.before.slot parent older (chain_at (parent ∷ older) has_parent).3).0 in
+        let high : parent.base ≤ o.before.slot = high_base in
         let under : o.before.slot + 2 ^ 16 ≤ 0xC0000000 = h.known.whole.laid_out.slot.below in
         let sp : o.before.registers 4 ≡ h.known.newest.base = sp_is in
         let same : o.before.registers 4 + 4 ≡ h.known.newest.base + 4 + 0 = omega (arith, sp) in
@@ -288,15 +271,6 @@ module _ (image : Image) (settings : Settings) (states : States) (n : Node) (a :
           bytes = λ y above. memory_others y (λ f. subst (λ j. j ≤ y) (sym up_is) (above (subst (λ j. is_in_stack j y ≡ true) (sym slot_is) f)));
         }
 
-    site_place : (place : ℕ) × IsPlaceAfter image ending.site place × (word_at o.before.memory ending.base ≡ Some place)
-    site_place = (chain_at (parent ∷ older) has_parent).2
-
-    place_is : done_reads.place ≡ next_place site_place.1.call
-    place_is = same_Some done_reads.place site_place.0 (sym done_reads.is_place ∙ ap (word_at o.before.memory) sp_is ∙ site_place.2) ∙ site_place.1.place_is
-
-    eip_is : o.after.eip ≡ next_place site_place.1.call
-    eip_is = eip_after ∙ ap (λ j. j % 4294967296) place_is ∙ place_word site_place.1.call
-
     all_successors : successors image settings states n a ≡ returned_each image settings states n 0 b
     unfolding successors successors_by extern_successors abs_externs.answered abs_externs.extern_row
     all_successors = ap (λ c. successors_by c image settings states n a) content ∙ by k reads
@@ -312,11 +286,7 @@ module _ (image : Image) (settings : Settings) (states : States) (n : Node) (a :
     leaves_by : Leaves image settings states n a o
     leaves_by =
         goes_back image settings states n a b o m ending parent older 0 h.known.image_is m_whole b_stands h.known.runs split is_returned
-        (steps_stay_laid_out image o h.step h.known.whole.laid_out) below (subst (λ x. IsPlaceAfter image ending.site x) (site_place.1.place_is ∙ sym eip_is) site_place.1) all_successors
+        (steps_stay_laid_out image o h.step h.known.whole.laid_out) below behind all_successors
 
   pub extern_leaves : Leaves image settings states n a o
-  extern_leaves = by h.known.others refl
-    where
-      by : (xs : List Activation) → h.known.others ≡ xs → Leaves image settings states n a o
-      by [] e = absurd (not_alone e)
-      by (parent ∷ older) e = leaves_by parent older e
+  extern_leaves = leaves_by caller.parent caller.older caller.are caller.above caller.high caller.behind

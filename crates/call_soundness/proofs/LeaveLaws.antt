@@ -57,7 +57,7 @@ use Rattle.call_soundness.specs.Calls.{IsReturned}
 use Rattle.call_soundness.specs.Maps.{state_in, IsListed}
 use Rattle.call_soundness.proofs.ContentLaws.{fetched_stands}
 use Rattle.call_soundness.proofs.EnterLaws.{kept_slots}
-use Rattle.call_soundness.proofs.BackLaws.{Leaves, taken_less, is_zero, goes_back}
+use Rattle.call_soundness.proofs.BackLaws.{Leaves, HasCaller, has_caller, kept_above, taken_less, is_zero, goes_back}
 use Rattle.call_soundness.proofs.StackLaws.{esp_near}
 use Rattle.call_soundness.proofs.StayLaws.{listed_among}
 
@@ -141,39 +141,20 @@ module _ (image : Image) (settings : Settings) (states : States) (n : Node) (a :
       omega (arith, ints)
 
   memory_others : (y : ℕ) → (is_in_stack o.before.slot y ≡ true → rows.risen (o.before.registers 4) (4 + extra) ≤ y) → o.after.memory y ≡ o.before.memory y
-  memory_others y above = h.step.memory.others y (free_is ∙ none_free) ∙ ap (λ (x : Outcome). (made x o.before).memory y) done_reads.is
-    where
-      free_is : is_any h.step.done o.before y ≡ cond (is_some (o.before.memory y)) (is_in_stack o.before.slot y && nat_lt y (rows.risen (o.before.registers 4) (4 + extra))) false
-      free_is = ap (λ (x : Outcome). is_any x o.before y) done_reads.is
-
-      none_free : cond (is_some (o.before.memory y)) (is_in_stack o.before.slot y && nat_lt y (rows.risen (o.before.registers 4) (4 + extra))) false ≡ false
-      none_free =
-          cond_both (is_some (o.before.memory y)) (is_in_stack o.before.slot y && nat_lt y (rows.risen (o.before.registers 4) (4 + extra))) false (λ b. b ≡ false)
-          (λ _. by (is_in_stack o.before.slot y) refl) (λ _. refl)
-        where
-          by : (b : Bool) → is_in_stack o.before.slot y ≡ b → (b && nat_lt y (rows.risen (o.before.registers 4) (4 + extra))) ≡ false
-          by true f = le-ltb y (rows.risen (o.before.registers 4) (4 + extra)) (above f)
-          by false f = refl
+  memory_others y above =
+      h.step.memory.others y
+      (ap (λ (x : Outcome). is_any x o.before y) done_reads.is ∙ kept_above o.before.slot (rows.risen (o.before.registers 4) (4 + extra)) y (is_some (o.before.memory y)) above)
+      ∙ ap (λ (x : Outcome). (made x o.before).memory y) done_reads.is
 
   eip_after : o.after.eip ≡ done_reads.place % 4294967296
   eip_after = ap (λ (t : State). t.eip) h.step.after ∙ ap (λ (x : Outcome). (made x o.before).eip) done_reads.is
 
-  chain_at : (xs : List Activation) → h.known.others ≡ xs → AreActivations image o.before.memory o.before.slot (h.known.newest ∷ xs)
-  chain_at xs e = subst (AreActivations image o.before.memory o.before.slot) (h.known.activations ∙ ap (λ ys. h.known.newest ∷ ys) e) h.known.whole.activations
-
-  -- the last activation would return to HALT
-  not_alone : h.known.others ≡ [] → ⊥
-  not_alone none =
-      let chain = chain_at [] none in
-      let word : word_at o.before.memory (o.before.registers 4) ≡ Some HALT = ap (word_at o.before.memory) (sp_is ∙ chain.0) ∙ chain.1 in
-      let place : done_reads.place ≡ 4294901760 = same_Some done_reads.place HALT (sym done_reads.is_place ∙ word) in
-      let halt : o.after.eip ≡ HALT = eip_after ∙ (let e : done_reads.place % 4294967296 ≡ 4294901760 = omega (arith, place) in e) in
-      let single : is_single o.before.activations ≡ true = ap is_single (h.known.activations ∙ ap (λ ys. h.known.newest ∷ ys) none) in
-      true≢false (sym (and_from (is_single o.before.activations) (o.after.eip == HALT) single (eq-eqb o.after.eip HALT halt)) ∙ not_last)
+  caller : HasCaller image o h.known.whole h.known.newest h.known.others h.known.activations done_reads.place (sym (ap (word_at o.before.memory) sp_is) ∙ done_reads.is_place) eip_after
+  caller = has_caller image o h.known.whole h.known.newest h.known.others h.known.activations done_reads.place (sym (ap (word_at o.before.memory) sp_is) ∙ done_reads.is_place) eip_after not_last
 
   -- -- With a caller
 
-  module _ (parent : Activation) (older : List Activation) (has_parent : h.known.others ≡ parent ∷ older) where
+  module _ (parent : Activation) (older : List Activation) (has_parent : h.known.others ≡ parent ∷ older) (high_base : parent.base ≤ o.before.slot) (behind : IsPlaceAfter image h.known.newest.site o.after.eip) where
     abbrev ending : Activation
     ending = h.known.newest
 
@@ -187,13 +168,10 @@ module _ (image : Image) (settings : Settings) (states : States) (n : Node) (a :
         (subst (λ q. IsLinked a.links q false parent.callee (pos ending.base -ℤ pos parent.base)) h.known.runs (h.known.stands.links [] older ending parent split)) few_taken in
         omega (arith, ints)
 
-    high_base : (parent.base ≤ o.before.slot) × (o.before.slot ≤ parent.base + 2 ^ 20)
-    high_base = base_bounds image o.before.memory o.before.slot parent older (chain_at (parent ∷ older) has_parent).3
-
     risen_is : rows.risen (o.before.registers 4) (4 + extra) ≡ ending.base + 4 + extra
     risen_is =
         let limit = below in
-        let high : parent.base ≤ o.before.slot = high_base.0 in
+        let high : parent.base ≤ o.before.slot = high_base in
         let under : o.before.slot + 2 ^ 16 ≤ 0xC0000000 = h.known.whole.laid_out.slot.below in
         let sp : o.before.registers 4 ≡ h.known.newest.base = sp_is in
         let same : o.before.registers 4 + (4 + extra) ≡ h.known.newest.base + 4 + extra = omega (arith, sp) in
@@ -220,16 +198,6 @@ module _ (image : Image) (settings : Settings) (states : States) (n : Node) (a :
           bytes = bytes_kept;
         }
 
-    -- the place after the call
-    abbrev site_place : (place : ℕ) × IsPlaceAfter image ending.site place × (word_at o.before.memory ending.base ≡ Some place)
-    site_place = (chain_at (parent ∷ older) has_parent).2
-
-    place_is : done_reads.place ≡ next_place site_place.1.call
-    place_is = same_Some done_reads.place site_place.0 (sym done_reads.is_place ∙ ap (word_at o.before.memory) sp_is ∙ site_place.2) ∙ site_place.1.place_is
-
-    eip_is : o.after.eip ≡ next_place site_place.1.call
-    eip_is = eip_after ∙ ap (λ k. k % 4294967296) place_is ∙ place_word site_place.1.call
-
     -- -- The successors
 
     all_successors : successors image settings states n a ≡ returned_each image settings states n extra a
@@ -241,11 +209,7 @@ module _ (image : Image) (settings : Settings) (states : States) (n : Node) (a :
     leaves_by : Leaves image settings states n a o
     leaves_by =
         goes_back image settings states n a a o o.before ending parent older extra h.known.image_is h.known.whole h.known.stands h.known.runs split is_returned
-        (steps_stay_laid_out image o h.step h.known.whole.laid_out) below (subst (λ x. IsPlaceAfter image ending.site x) (site_place.1.place_is ∙ sym eip_is) site_place.1) all_successors
+        (steps_stay_laid_out image o h.step h.known.whole.laid_out) below behind all_successors
 
   pub return_leaves : Leaves image settings states n a o
-  return_leaves = by h.known.others refl
-    where
-      by : (xs : List Activation) → h.known.others ≡ xs → Leaves image settings states n a o
-      by [] e = absurd (not_alone e)
-      by (parent ∷ older) e = leaves_by parent older e
+  return_leaves = leaves_by caller.parent caller.older caller.are caller.high caller.behind

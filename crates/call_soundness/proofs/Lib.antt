@@ -12,4 +12,5 @@ pub mod EnterLaws
 pub mod BackLaws
 pub mod LeaveLaws
 pub mod ExternLaws
+pub mod AllocLaws
 pub mod RowLaws

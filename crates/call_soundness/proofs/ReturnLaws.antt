@@ -41,7 +41,7 @@ use Rattle.call_soundness.specs.Calls.{IsReturned}
 use Rattle.call_soundness.specs.Laws.{ReturnedStatesStand}
 use Rattle.call_soundness.proofs.CallLaws.{stack_owner}
 use Rattle.call_soundness.proofs.ListLaws.{links_keep, links_have, without_keeps, only_other, only_same}
-use Rattle.call_soundness.proofs.ThingLaws.{lift, lift_base, lift_in, which, region_cases, not_newest, was_older}
+use Rattle.call_soundness.proofs.ThingLaws.{as_itself, lift, lift_base, lift_in, which, region_cases, not_newest, was_older}
 use Rattle.call_soundness.proofs.ValueLaws.{points_of, value_from}
 
 -- -- Values that lose a region
@@ -114,9 +114,6 @@ module _ (lane : ℕ) (a : AbsState) (s t : State) (ending parent : Activation) 
 
   split_up : (xs : List Activation) → t.activations ≡ xs → s.activations ≡ ending ∷ xs
   split_up xs e = all_before ∙ ap (λ ys. ending ∷ ys) e
-
-  as_itself : (r : RegionId) (x : Cell) → r ≡ x.region → as_of r x ≡ x
-  as_itself r x e = λ i. record x { region = e i }
 
   -- values that forget the activation that ends, and have what is in others
   module _ (f : Values → Values) (top : f Top ≡ Top) (loses : (o : ℤ) (v : Values) → HasOffset (Frame q) o v → f v ≡ Top)

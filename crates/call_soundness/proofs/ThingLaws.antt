@@ -2,6 +2,7 @@
 use Rattle.std.proofs.Common.{◌≡◌, ◌⊎◌, inl, inr, ℕ, ◌==◌, ◌||◌, Bool, true, false, cond, List, [], ◌∷◌, ◌++◌, refl, sym, ◌∙◌, ap, subst}
 use Rattle.std.proofs.lemmas.Bool.{true≢false, eq-eqb, eqb-true}
 use Rattle.image_map.specs.declared.region.Activation.{Activation}
+use Rattle.image_map.specs.declared.region.Cell.{Cell}
 use Rattle.image_map.specs.declared.region.RegionId.{RegionId}
 use Rattle.image_map.specs.declared.region.RegionId.TheVariants.{Global, Frame, OldFrame, Heap, OldHeap}
 use Rattle.ia32_semantics.specs.declared.state.Allocation.{Allocation}
@@ -9,12 +10,17 @@ use Rattle.ia32_semantics.specs.State.{State}
 use Rattle.vset.specs.World.{World, Thing, TheImage, ActivationAt, BlockAt, IsIn, base_of, region_of, is_called, has_key, key_of}
 use Rattle.abs_semantics.specs.States.{AbsState, has_procedure}
 use Rattle.abs_semantics.specs.StandsFor.{StandsFor, world_of}
+use Rattle.abs_steps.specs.Calls.{as_of}
 
-head_is : (x y : Activation) (xs ys : List Activation) → x ∷ xs ≡ y ∷ ys → x ≡ y
+pub head_is : (x y : Activation) (xs ys : List Activation) → x ∷ xs ≡ y ∷ ys → x ≡ y
 head_is x y xs ys e = cc
 
-tail_is : (x y : Activation) (xs ys : List Activation) → x ∷ xs ≡ y ∷ ys → xs ≡ ys
+pub tail_is : (x y : Activation) (xs ys : List Activation) → x ∷ xs ≡ y ∷ ys → xs ≡ ys
 tail_is x y xs ys e = cc
+
+-- a cell of a region is that cell of it
+pub as_itself : (r : RegionId) (x : Cell) → r ≡ x.region → as_of r x ≡ x
+as_itself r x e = λ i. record x { region = e i }
 
 module _ (new : Activation) where
   -- a thing of the first world in the second

@@ -1,11 +1,13 @@
 -- That each step from a state that a map knows is one of the map's. The laws are the project's own.
-use Rattle.std.specs.Prelude.{◌≡◌, ℕ, ◌+◌, ◌^◌, ◌<◌, ◌≤◌, Bool, true, false, ℤ, pos, ◌+ℤ◌, ◌-ℤ◌, List}
+use Rattle.std.specs.Prelude.{◌≡◌, ℕ, ◌+◌, ◌^◌, ◌<◌, ◌≤◌, Bool, true, false, ℤ, pos, ◌+ℤ◌, ◌-ℤ◌, List, None}
 use Rattle.image_map.specs.declared.image.Image.{Image}
 use Rattle.image_map.specs.declared.region.Kind.{Kind}
 use Rattle.image_map.specs.declared.region.Kind.TheVariants as kind
 use Rattle.image_map.specs.declared.region.Settings.{Settings}
 use Rattle.image_map.specs.Whole.{IsImage}
 use Rattle.image_map.specs.declared.region.Activation.{Activation}
+use Rattle.image_map.specs.declared.region.RegionId.TheVariants.{Heap, OldHeap}
+use Rattle.ia32_semantics.specs.declared.state.Allocation.{Allocation}
 use Rattle.ia32_types.specs.declared.Instr.{Instr}
 use Rattle.ia32_types.specs.declared.Op.{Op}
 use Rattle.ia32_types.specs.declared.Op.TheVariants as op
@@ -16,15 +18,18 @@ use Rattle.ia32_semantics.specs.Machine.{Occurrence}
 use Rattle.ia32_semantics.specs.State.{State}
 use Rattle.ia32_semantics.specs.Step.{Act, Executes, Answers, IsExternAt}
 use Rattle.alocs.specs.Cells.{Division}
-use Rattle.abs_semantics.specs.States.{AbsState, HasCanonical}
-use Rattle.abs_semantics.specs.StandsFor.{StandsFor}
+use Rattle.abs_semantics.specs.States.{AbsState, HasCanonical, known_of}
+use Rattle.abs_semantics.specs.StandsFor.{StandsFor, world_of}
 use Rattle.strided.specs.Interval.{Interval, IsMember}
-use Rattle.abs_steps.specs.Calls.{called, returned}
+use Rattle.vset.specs.Members.{HasValue}
+use Rattle.vset.specs.Values.{Values}
+use Rattle.vset.specs.World.{key_of}
+use Rattle.abs_steps.specs.Calls.{called, returned, allocated}
 use Rattle.abs_steps.specs.Places.{Content, Instruction, Extern, content_at}
 use Rattle.abs_steps.specs.Successors.{States}
 use Rattle.slice_soundness.specs.Premises.{GoesOn, Stays, Calls, Returns}
 use Rattle.step_soundness.specs.Steps.{is_plain}
-use Rattle.call_soundness.specs.Calls.{IsCalled, IsReturned}
+use Rattle.call_soundness.specs.Calls.{IsCalled, IsReturned, IsAllocated}
 use Rattle.call_soundness.specs.Maps.{Drawn, map_of}
 
 -- an instruction that is fetched at an address is what stands there
@@ -93,3 +98,10 @@ ReturnedStatesStand =
     (image : Image) (lane : ℕ) (a : AbsState) (s t : State) (ending parent : Activation) (others : List Activation) (off : Interval) (extra : ℕ)
     → IsImage image → IsWhole image s → StandsFor lane a s → IsReturned s t ending parent others extra
     → IsMember (pos ending.base -ℤ pos parent.base) off → ending.base + 4 + extra ≤ parent.base → StandsFor lane (returned ending.callee parent.callee off extra a) t
+
+-- After an allocation, too, where nothing is remembered of a comparison, and of no block of the key how its base is aligned.
+abbrev pub AllocatedStatesStand : Type 0
+AllocatedStatesStand =
+    (lane : ℕ) (a : AbsState) (s t : State) (new : Allocation) (argument : Values) → HasCanonical a → StandsFor lane a s → IsAllocated s t new
+    → HasValue lane (world_of s) new.size argument → new.size < 2 ^ 32 → a.fact ≡ None
+    → (known_of (Heap (key_of lane new)) a.aligns ≡ None) × (known_of (OldHeap (key_of lane new)) a.aligns ≡ None) → StandsFor lane (allocated (key_of lane new) argument a) t

@@ -1,6 +1,6 @@
 //! Laws of the definitions.
 
-ghost use Rattle.call_soundness.specs.Laws.{FetchedInstructionsStand, ExternsStand, StayingStepsAreRows, CallsAreRows, ReturnsAreRows, ReadersAreRows, CalledStatesStand, ReturnedStatesStand};
+ghost use Rattle.call_soundness.specs.Laws.{FetchedInstructionsStand, ExternsStand, StayingStepsAreRows, CallsAreRows, ReturnsAreRows, ReadersAreRows, CalledStatesStand, ReturnedStatesStand, AllocatedStatesStand};
 
 /// An instruction that is fetched at an address is what stands there.
 pub fn fetched_instructions_stand()
@@ -43,4 +43,10 @@ pub fn called_states_stand()
 /// So it does after a return.
 pub fn returned_states_stand()
     ensures { ReturnedStatesStand }
+{}
+
+/// After an allocation, where nothing is remembered of a comparison or of how blocks of its key are aligned, the abstract state after it
+/// stands for the state.
+pub fn allocated_states_stand()
+    ensures { AllocatedStatesStand }
 {}

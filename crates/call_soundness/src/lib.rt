@@ -5,6 +5,7 @@
 mod laws;
 
 pub use laws::{
-    called_states_stand, calls_are_rows, externs_stand, fetched_instructions_stand,
-    readers_are_rows, returned_states_stand, returns_are_rows, staying_steps_are_rows,
+    allocated_states_stand, called_states_stand, calls_are_rows, externs_stand,
+    fetched_instructions_stand, readers_are_rows, returned_states_stand, returns_are_rows,
+    staying_steps_are_rows,
 };
