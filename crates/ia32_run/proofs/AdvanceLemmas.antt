@@ -1,23 +1,18 @@
 -- A step of a run is made, or none can be.
-use Rattle.std.proofs.Common.{◌≡◌, ℕ, zero, suc, ◌+◌, ◌≤◌, List, [], ◌∷◌, ◌++◌, length, drop, refl, sym, ap, ◌∙◌, subst, append_assoc, length-append, arith}
-use Rattle.std.specs.Prelude.{Bool, true, false, ◌&&◌, ◌==◌, if◌then◌else◌, reverse, Option, Some, None}
+use Rattle.std.proofs.Common.{◌≡◌, ℕ, suc, ◌≤◌, List, [], ◌∷◌, ◌++◌, length, drop, refl, sym, ap, ◌∙◌, subst, append_assoc, length-append, arith}
+use Rattle.std.specs.Prelude.{false, ◌&&◌, ◌==◌, if◌then◌else◌, reverse, Some, None}
 use Rattle.std.proofs.lemmas.Bool.Decides.{nat_tests}
 use Rattle.std.proofs.lemmas.List.{length-reverse}
-use Rattle.std.proofs.lemmas.Option.{none-some, same_Some}
 use Rattle.image_map.specs.declared.image.Image.{Image}
 use Rattle.image_map.specs.declared.region.Activation.{Activation}
-use Rattle.image_map.specs.declared.region.Kind.{Kind}
 use Rattle.image_map.specs.declared.region.Kind.TheVariants as kind
 use Rattle.image_map.specs.declared.region.Settings.{Settings}
 use Rattle.ia32_semantics.specs.State.{State}
 use Rattle.ia32_semantics.specs.Machine.{Occurrence}
 use Rattle.ia32_semantics.specs.Effects.{Effect, sets, turns, stores, copies, changed, all_changed}
 use Rattle.ia32_semantics.specs.Step.{Act, Executes, Answers, IsActAt, Step, completes, is_single, returns_to_halt}
-use Rattle.ia32_machine.specs.declared.touched.StepOut.{StepOut}
-use Rattle.ia32_run.specs.declared.acts.Act as code
 use Rattle.ia32_run.specs.declared.log.Made.{Made}
-use Rattle.ia32_run.specs.Acts.{act_of, act_meant}
-use Rattle.ia32_run.specs.Choices.{Spreads, Makes, fill_byte, base_given}
+use Rattle.ia32_run.specs.Choices.{Spreads}
 use Rattle.ia32_run.specs.Steps.{occurrence, IsDone, CantBeDone}
 use Rattle.ia32_run.specs.Traces.{finish_of, NoStep, IsMade}
 

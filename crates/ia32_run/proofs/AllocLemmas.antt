@@ -1,41 +1,36 @@
 -- An extern allocates.
-use Rattle.std.proofs.Common.{◌≡◌, ◌⊎◌, inl, inr, ℕ, suc, ◌+◌, ◌*◌, ◌/◌, ◌<◌, ◌≤◌, ◌^◌, ◌%◌, List, [], ◌∷◌, ◌++◌, length, drop, refl, sym, ap, ◌∙◌, subst, arith}
-use Rattle.std.specs.Prelude.{Bool, true, false, cond, not, ◌&&◌, ◌||◌, ◌==◌, nat_le, nat_lt, if◌then◌else◌, max, slice_index, Option, Some, None, is_some}
+use Rattle.std.proofs.Common.{◌≡◌, inl, inr, ℕ, suc, ◌+◌, ◌*◌, ◌/◌, ◌<◌, ◌≤◌, ◌^◌, ◌%◌, List, [], ◌∷◌, ◌++◌, length, refl, sym, ap, ◌∙◌, subst, arith}
+use Rattle.std.specs.Prelude.{Bool, true, false, cond, not, ◌&&◌, ◌||◌, ◌==◌, nat_le, if◌then◌else◌, slice_index, Option, Some, None, is_some}
 use Rattle.std.specs.List.{list_any}
 use Rattle.std.proofs.lemmas.Bool.{false≢true}
 use Rattle.std.proofs.lemmas.Bool.Decides.{nat_tests}
 use Rattle.std.proofs.lemmas.List.{append-nil}
-use Rattle.std.proofs.lemmas.Option.{none-some, same_Some}
 use mathlib.Core.Path.{fun_ext}
 use Rattle.image_map.specs.declared.image.Image.{Image}
 use Rattle.image_map.specs.declared.region.Block.{Block}
 use Rattle.image_map.specs.declared.region.Kind.TheVariants as kind
 use Rattle.item_list.specs.Ranges.{within}
 use Rattle.image_map.specs.Whole.{IsImage}
-use Rattle.ia32_semantics.specs.declared.state.Allocation.{Allocation}
-use Rattle.ia32_semantics.specs.State.{State, Bytes, newest_site, word_at}
+use Rattle.ia32_semantics.specs.State.{State, newest_site, word_at}
 use Rattle.ia32_semantics.specs.Effects.{all_among, is_mapped}
 use Rattle.ia32_semantics.specs.Reading.{outcome}
-use Rattle.ia32_semantics.specs.Outcome.{Outcome, Given, made, can_move, leaves, is_in_block, is_in_stack, is_below, is_forgotten, IsBlock, LiesWell}
-use Rattle.ia32_semantics.specs.Outcome as out
+use Rattle.ia32_semantics.specs.Outcome.{Outcome, made, can_move, leaves, is_in_block, is_forgotten, IsBlock, LiesWell}
 use Rattle.ia32_semantics.specs.Operands.{is_set}
 use Rattle.ia32_semantics.specs.Externs.{answered, extern_row, allocator}
 use Rattle.ia32_semantics.specs.CallModel.{IsLaidOut}
-use Rattle.ia32_semantics.specs.Step.{Act, Answers, Step}
-use Rattle.ia32_semantics.proofs.EffectLemmas.{by_test, effects_map}
+use Rattle.ia32_semantics.specs.Step.{Answers}
+use Rattle.ia32_semantics.proofs.EffectLemmas.{effects_map}
 use Rattle.ia32_semantics.proofs.StepLemmas.{steps_stay_laid_out}
 use Rattle.ia32_memory.specs.Mapped.{bytes_of}
-use Rattle.ia32_memory.specs.Changes.{with_zeros, cleared}
 use Rattle.ia32_plan.specs.declared.state.Core.{Core}
 use Rattle.ia32_machine.specs.declared.touched.StepOut.{StepOut}
-use Rattle.ia32_machine.specs.Machines.{entry_slot}
 use Rattle.ia32_machine.specs.Steps.{performed}
-use Rattle.ia32_run.specs.Choices.{Spreads, heap_end, next_base, base_given}
+use Rattle.ia32_run.specs.Choices.{heap_end, next_base, base_given}
 use Rattle.ia32_run.specs.Answers.{results_of, others_of, alloc_done, with_given, IsToldOf}
 use Rattle.ia32_run.specs.Steps.{occurrence, IsDone, CantBeDone}
 use Rattle.ia32_run.proofs.AnswerLemmas.{Needs}
 use Rattle.ia32_run.proofs.ExternLemmas.{RowDone, alloc_is, alloc_needs}
-use Rattle.ia32_run.proofs.SettledLemmas.{settled, settled_steps, settle_go, Answered, answer_is_done, cant_unmapped, cant_happen}
+use Rattle.ia32_run.proofs.SettledLemmas.{settled, settled_steps, settle_go, answer_is_done, cant_unmapped, cant_happen}
 use Rattle.ia32_run.proofs.HeapLemmas.{end_low}
 use Rattle.ia32_run.proofs.PlainLemmas.{registers_written, flags_written, none_within, drop_long}
 

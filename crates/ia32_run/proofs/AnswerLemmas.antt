@@ -1,5 +1,5 @@
 -- What the rows of externs read and give, where what they ask for is mapped; and that they give nothing where it isn't.
-use Rattle.std.proofs.Common.{◌≡◌, ◌⊎◌, ℕ, zero, suc, ◌+◌, ◌*◌, ◌<◌, ◌≤◌, List, [], ◌∷◌, ◌++◌, length, refl, sym, ap, ◌∙◌, subst, append_assoc, arith}
+use Rattle.std.proofs.Common.{◌≡◌, ℕ, zero, suc, ◌+◌, ◌*◌, ◌<◌, List, [], ◌∷◌, ◌++◌, length, refl, sym, ap, ◌∙◌, subst, append_assoc, arith}
 use Rattle.std.specs.Prelude.{Bool, true, false, ◌&&◌, ◌||◌, ◌==◌, Option, Some, None, is_some, option_map}
 use Rattle.std.proofs.lemmas.Bool.{false≢true}
 use Rattle.std.proofs.lemmas.Bool.Decides.{nat_tests}
@@ -15,7 +15,6 @@ use Rattle.ia32_semantics.proofs.EffectLemmas.{and_left, and_right}
 use Rattle.std.proofs.lemmas.Bool.{and_from}
 use Rattle.ia32_semantics.proofs.ReadingLemmas.{then_outcome, then_asks, outcome_bind, asks_bind}
 use Rattle.ia32_memory.specs.Mapped.{number_at}
-use Rattle.ia32_memory.proofs.ReadLaws.{stored_number_is}
 use Rattle.ia32_machine.proofs.SpanLemmas.{here_or}
 use Rattle.ia32_run.specs.Answers.{results_of}
 

@@ -1,23 +1,22 @@
 -- The rows of externs with their words: what they give, and which bytes they ask for.
-use Rattle.std.proofs.Common.{◌≡◌, ℕ, zero, suc, ◌+◌, ◌-◌, ◌*◌, ◌%◌, ◌<◌, ◌≤◌, List, [], ◌∷◌, ◌++◌, length, replicate, refl, sym, ap, ◌∙◌, subst, append_assoc, arith}
+use Rattle.std.proofs.Common.{◌≡◌, ℕ, zero, suc, ◌+◌, ◌-◌, ◌*◌, ◌%◌, ◌≤◌, List, [], ◌∷◌, ◌++◌, length, replicate, refl, sym, ap, ◌∙◌, subst, append_assoc, arith}
 use Rattle.std.specs.Prelude.{Bool, true, false, ◌||◌, ◌==◌, nat_lt, if◌then◌else◌, cond, max, Option, Some, None, is_some}
 use Rattle.std.proofs.lemmas.Bool.{false≢true}
 use Rattle.std.proofs.lemmas.Bool.Decides.{nat_tests}
 use Rattle.std.proofs.lemmas.List.{append-nil}
-use Rattle.std.proofs.lemmas.Option.{none-some, same_Some}
+use Rattle.std.proofs.lemmas.Option.{same_Some}
 use Rattle.item_list.specs.Ranges.{within}
-use Rattle.ia32_semantics.specs.State.{State, Bytes, Location, put, bytes_at, little_endian, word_at}
-use Rattle.ia32_semantics.specs.Reading.{Reading, gives, faults, byte, ◌>>=◌, outcome, asks, is_register}
-use Rattle.ia32_semantics.specs.Effects.{Effect, stores, at_byte, all_among, is_mapped, overwritten}
+use Rattle.ia32_semantics.specs.State.{State, Bytes, Location, bytes_at, little_endian, word_at}
+use Rattle.ia32_semantics.specs.Reading.{Reading, gives, faults, ◌>>=◌, outcome, asks, is_register}
+use Rattle.ia32_semantics.specs.Effects.{at_byte, all_among, is_mapped, overwritten}
 use Rattle.ia32_semantics.specs.Outcome.{Outcome}
 use Rattle.ia32_semantics.specs.Operands.{stored_word, whole_register, any_word}
-use Rattle.ia32_semantics.specs.Rows.{returning, risen}
-use Rattle.ia32_semantics.specs.Externs.{Results, any_results, any_words, any_prefix, arguments, words_from, argument, answered, result_effects, pure, reader, allocator, filler, number_over, byte_over, nth_of}
+use Rattle.ia32_semantics.specs.Externs.{Results, any_results, any_words, any_prefix, arguments, argument, answered, pure, allocator, filler, number_over, byte_over}
 use Rattle.ia32_semantics.proofs.EffectLemmas.{and_left, and_right}
 use Rattle.ia32_semantics.proofs.ReadingLemmas.{then_outcome, then_asks, outcome_bind, asks_bind}
 use Rattle.ia32_memory.specs.Mapped.{number_at}
 use Rattle.ia32_run.specs.Answers.{results_of, plain_row, plain_done, alloc_done, fill_done}
-use Rattle.ia32_run.proofs.AnswerLemmas.{any_given, any_asks, register_given, register_asks, at_never, ReadsBytes, reads_gives, reads_last, reads_back, reads_free, reads_byte, first_of, rest_of, HasNumber, has_number, number_more, HasWords, has_words, Needs, needs_none, needs_first, needs_later, needs_both, needs_byte, needs_number, needs_words}
+use Rattle.ia32_run.proofs.AnswerLemmas.{any_given, any_asks, register_given, register_asks, at_never, ReadsBytes, reads_gives, reads_last, reads_back, reads_free, reads_byte, first_of, rest_of, has_number, number_more, has_words, Needs, needs_none, needs_first, needs_later, needs_both, needs_byte, needs_number, needs_words}
 
 abbrev pub sp : State → ℕ
 sp s = s.registers 4

@@ -1,23 +1,21 @@
 -- An extern fills a range of memory with one byte.
-use Rattle.std.proofs.Common.{◌≡◌, ℕ, zero, suc, ◌+◌, ◌-◌, ◌*◌, ◌/◌, ◌<◌, ◌≤◌, ◌^◌, ◌%◌, List, [], ◌∷◌, ◌++◌, length, drop, replicate, refl, sym, ap, ◌∙◌, subst, arith}
-use Rattle.std.specs.Prelude.{Bool, true, false, cond, ◌&&◌, ◌||◌, ◌==◌, if◌then◌else◌, max, slice_index, Option, Some, None, is_some, MatchOption}
+use Rattle.std.proofs.Common.{◌≡◌, ℕ, zero, suc, ◌+◌, ◌*◌, ◌<◌, ◌≤◌, ◌^◌, ◌%◌, List, [], ◌∷◌, ◌++◌, length, drop, replicate, refl, sym, ap, ◌∙◌, subst, arith}
+use Rattle.std.specs.Prelude.{Bool, true, false, cond, ◌&&◌, ◌||◌, ◌==◌, max, slice_index, Option, Some, is_some}
 use Rattle.std.proofs.lemmas.Bool.{false≢true}
 use Rattle.std.proofs.lemmas.Bool.Decides.{nat_tests}
 use Rattle.std.proofs.lemmas.List.{append-nil}
-use Rattle.std.proofs.lemmas.Option.{none-some, same_Some}
+use Rattle.std.proofs.lemmas.Option.{same_Some}
 use mathlib.Core.Path.{fun_ext}
 use Rattle.image_map.specs.declared.image.Image.{Image}
 use Rattle.image_map.specs.declared.spans.Span.{Span}
 use Rattle.image_map.specs.declared.region.Kind.TheVariants as kind
 use Rattle.item_list.specs.Ranges.{within}
 use Rattle.image_map.specs.Whole.{IsImage}
-use Rattle.ia32_types.specs.declared.Reg.{Reg}
 use Rattle.ia32_types.specs.declared.Reg.TheVariants.{Eax, Ecx, Edx, Esp}
-use Rattle.ia32_types.specs.declared.Flag.{Flag}
 use Rattle.ia32_types.specs.declared.Flag.TheVariants.{Cf, Pf, Zf, Sf, Of}
 use Rattle.ia32_types.specs.Numbers.{reg_number, flag_number, is_same_reg, is_same_flag}
 use Rattle.ia32_types.proofs.NumberLemmas.{each_reg, each_flag}
-use Rattle.ia32_semantics.specs.State.{State, Bytes, InRegister, InFlag, put, word_at}
+use Rattle.ia32_semantics.specs.State.{State, Bytes, InRegister, InFlag, word_at}
 use Rattle.ia32_semantics.specs.Effects.{effects_write, all_among, all_of_bytes, is_mapped, is_open, is_among, is_of_bytes, overwritten}
 use Rattle.ia32_semantics.specs.Reading.{outcome}
 use Rattle.ia32_semantics.specs.Outcome.{Outcome, is_possible, can_move, leaves}
@@ -25,25 +23,24 @@ use Rattle.ia32_semantics.specs.Operands.{number_bytes}
 use Rattle.ia32_semantics.specs.Strings.{stepped}
 use Rattle.ia32_semantics.specs.Externs.{answered, extern_row, filler}
 use Rattle.ia32_semantics.specs.CallModel.{IsLaidOut}
-use Rattle.ia32_semantics.specs.Step.{Act, Answers, Step}
-use Rattle.ia32_semantics.proofs.EffectLemmas.{by_test, and_left, and_right, overwritten_maps, effects_map}
+use Rattle.ia32_semantics.specs.Step.{Answers}
+use Rattle.ia32_semantics.proofs.EffectLemmas.{by_test, and_left, and_right}
 use Rattle.std.proofs.lemmas.Bool.{and_from}
 use Rattle.ia32_semantics.proofs.StepLemmas.{steps_stay_laid_out}
 use Rattle.ia32_memory.specs.Mapped.{bytes_of}
-use Rattle.ia32_memory.specs.Changes.{with_byte, with_bytes, filled_over, all_in_elements}
+use Rattle.ia32_memory.specs.Changes.{with_bytes, filled_over, all_in_elements}
 use Rattle.ia32_memory.proofs.WrittenLaws.{with_bytes_maps}
 use Rattle.ia32_plan.specs.declared.state.Core.{Core}
 use Rattle.ia32_machine.specs.declared.touched.StepOut.{StepOut}
 use Rattle.ia32_machine.specs.Steps.{performed}
-use Rattle.ia32_machine.proofs.SpanLemmas.{AreLow, here_or, among_within, end_low}
-use Rattle.ia32_machine.proofs.PlaceLemmas.{mapped_low}
-use Rattle.ia32_run.specs.Choices.{Spreads, fill_byte}
+use Rattle.ia32_machine.proofs.SpanLemmas.{AreLow, here_or, among_within}
+use Rattle.ia32_run.specs.Choices.{fill_byte}
 use Rattle.ia32_run.specs.Answers.{results_of, fill_done, IsToldOf}
 use Rattle.ia32_run.specs.Steps.{occurrence, IsDone, CantBeDone}
-use Rattle.ia32_run.proofs.AnswerLemmas.{Needs, HasNumber, has_number, first_of, rest_of}
-use Rattle.ia32_run.proofs.ExternLemmas.{RowDone, Over, over_is, Fills, fill_is, fill_needs}
-use Rattle.ia32_run.proofs.SettledLemmas.{settled, settled_steps, performed_settles, Answered, answer_is_done, cant_unmapped, cant_happen}
-use Rattle.ia32_run.proofs.PlainLemmas.{drop_long, with_memory}
+use Rattle.ia32_run.proofs.AnswerLemmas.{Needs, first_of}
+use Rattle.ia32_run.proofs.ExternLemmas.{RowDone, over_is, Fills, fill_is, fill_needs}
+use Rattle.ia32_run.proofs.SettledLemmas.{settled, settled_steps, performed_settles, answer_is_done, cant_unmapped, cant_happen}
+use Rattle.ia32_run.proofs.PlainLemmas.{drop_long}
 
 -- -- One byte in a range
 

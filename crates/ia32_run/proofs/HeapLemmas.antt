@@ -1,9 +1,7 @@
 -- Where a block goes, and the site of the newest call.
-use Rattle.std.proofs.Common.{◌≡◌, ℕ, ◌+◌, ◌*◌, ◌/◌, ◌%◌, ◌<◌, ◌≤◌, List, [], ◌∷◌, ◌++◌, length, refl, sym, ap, ◌∙◌, subst, arith}
-use Rattle.std.specs.Prelude.{max, reverse, Bool, true, false, Option, Some, None}
-use Rattle.image_map.specs.declared.region.Activation.{Activation}
+use Rattle.std.proofs.Common.{◌≡◌, ℕ, ◌+◌, ◌≤◌, List, [], ◌∷◌, length, refl, sym, ap, ◌∙◌, arith}
+use Rattle.std.specs.Prelude.{max}
 use Rattle.image_map.specs.declared.region.Block.{Block}
-use Rattle.ia32_semantics.specs.State.{newest_site}
 use Rattle.ia32_run.specs.Choices.{heap_end}
 
 pub end_low : (blocks : List Block) → 0x90000000 ≤ heap_end blocks

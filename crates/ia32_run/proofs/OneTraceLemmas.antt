@@ -1,44 +1,39 @@
 -- A program has one run with given words of choice, whichever of two images of it is run that show the same.
-use Rattle.std.proofs.Common.{◌≡◌, ◌⊎◌, ◌↔◌, inl, inr, ℕ, zero, suc, ◌+◌, ◌-◌, ◌<◌, ◌≤◌, List, [], ◌∷◌, ◌++◌, length, take, drop, replicate, refl, sym, ap, ◌∙◌, subst, length-append, arith}
-use Rattle.std.specs.Prelude.{Bool, true, false, not, ◌&&◌, ◌||◌, if◌then◌else◌, slice_get, slice_index, nat_lt, Option, Some, None, is_some, Contains}
+use Rattle.std.proofs.Common.{◌≡◌, inl, inr, ℕ, zero, suc, ◌-◌, ◌<◌, ◌≤◌, List, [], ◌∷◌, ◌++◌, length, take, drop, replicate, refl, sym, ap, ◌∙◌, subst, length-append, arith}
+use Rattle.std.specs.Prelude.{Bool, true, false, not, ◌&&◌, ◌||◌, if◌then◌else◌, slice_get, slice_index, nat_lt, Option, Some, None, is_some}
 use Rattle.std.proofs.lemmas.Bool.{false≢true}
 use Rattle.std.proofs.lemmas.Bool.Decides.{nat_tests}
 use Rattle.std.proofs.lemmas.Option.{none-some, same_Some}
 use mathlib.Core.Path.{fun_ext}
 use Rattle.image_map.specs.declared.image.Image.{Image}
-use Rattle.image_map.specs.declared.region.Kind.{Kind}
 use Rattle.image_map.specs.declared.region.Kind.TheVariants as kind
 use Rattle.image_map.specs.declared.region.Settings.{Settings}
 use Rattle.image_map.specs.Names.{extern_number}
 use Rattle.image_map.specs.Queries.{byte_at, is_in_segment, is_writable}
 use Rattle.image_map.specs.Whole.{IsImage}
-use Rattle.ia32_types.specs.declared.Instr.{Instr}
 use Rattle.ia32_types.specs.Spells.{Spells}
 use Rattle.ia32_fetch.proofs.FetchLaws.{fetched_begins}
 use Rattle.ia32_fetch.proofs.OneBegins.{one_begins}
-use Rattle.ia32_semantics.specs.State.{State, Bytes, Location, word_at}
+use Rattle.ia32_semantics.specs.State.{State, Bytes, Location}
 use Rattle.ia32_semantics.specs.Machine.{Occurrence}
-use Rattle.ia32_semantics.specs.Runs.{stands_at}
 use Rattle.ia32_semantics.specs.Dependence.{DataDependence}
-use Rattle.ia32_semantics.specs.Fetch.{code_run, fetch_window, IsFetched}
+use Rattle.ia32_semantics.specs.Fetch.{code_run, fetch_window}
 use Rattle.ia32_semantics.specs.Reading.{outcome}
 use Rattle.ia32_semantics.specs.Effects.{Effect, sets, turns, stores, copies, is_open, is_mapped, all_among, all_of_bytes, effects_fit, byte_or_zero}
 use Rattle.ia32_semantics.specs.Outcome.{Outcome, made, is_possible, can_move}
 use Rattle.ia32_semantics.specs.Outcome as out
-use Rattle.ia32_semantics.specs.Step.{Act, Executes, Answers, IsActAt, Step, act_row, completes}
+use Rattle.ia32_semantics.specs.Step.{Act, Executes, Answers, IsActAt, act_row, completes}
 use Rattle.ia32_semantics.specs.Ia32.{machine}
 use Rattle.ia32_semantics.proofs.EffectLemmas.{by_test}
-use Rattle.ia32_memory.specs.Start.{start_bytes}
 use Rattle.ia32_memory.specs.Changes.{with_bytes}
 use Rattle.ia32_machine.specs.Machines.{start_state}
 use Rattle.ia32_machine.proofs.WordLemmas.{more_words}
 use Rattle.ia32_run.specs.declared.log.Occurrence.{Occurrence as Told}
 use Rattle.ia32_run.specs.declared.log.RunLog.{RunLog}
 use Rattle.ia32_run.specs.declared.log.Finish.{Finish}
-use Rattle.ia32_run.specs.declared.log.Finish.TheVariants as finish
 use Rattle.ia32_run.specs.Choices.{Spreads, Makes, base_given, fill_byte}
 use Rattle.ia32_run.specs.Steps.{occurrence}
-use Rattle.ia32_run.specs.Traces.{finish_of, NoStep, Goes, ListsDirect, TellsStep, TellsRun, IsTrace}
+use Rattle.ia32_run.specs.Traces.{finish_of, Goes, ListsDirect, TellsRun, IsTrace}
 use Rattle.ia32_run.proofs.ActLemmas.{not_fetched}
 use Rattle.ia32_run.proofs.FillLemmas.{same_front}
 use Rattle.ia32_run.proofs.RisingLists.{same_rising}

@@ -1,11 +1,9 @@
 -- An extern that reads arguments, and maybe all of memory, answers.
 use Rattle.std.proofs.Common.{◌≡◌, ℕ, zero, suc, ◌+◌, ◌*◌, ◌<◌, ◌≤◌, ◌^◌, ◌%◌, List, [], ◌∷◌, ◌++◌, length, drop, refl, sym, ap, ◌∙◌, subst, arith}
-use Rattle.std.specs.Prelude.{Bool, true, false, ◌&&◌, ◌||◌, ◌==◌, slice_index, Option, Some, None, is_some, MatchOption}
-use Rattle.std.proofs.lemmas.Bool.{false≢true}
+use Rattle.std.specs.Prelude.{Bool, true, false, ◌||◌, slice_index, Option, Some, is_some, MatchOption}
 use Rattle.std.proofs.lemmas.Bool.Decides.{nat_tests}
 use Rattle.std.proofs.lemmas.List.{append-nil}
 use Rattle.image_map.specs.declared.image.Image.{Image}
-use Rattle.image_map.specs.declared.spans.Span.{Span}
 use Rattle.item_list.specs.Ranges.{within}
 use Rattle.image_map.specs.Whole.{IsImage}
 use Rattle.ia32_types.specs.declared.Reg.{Reg}
@@ -20,9 +18,9 @@ use Rattle.ia32_semantics.specs.Outcome.{Outcome, can_move, leaves, is_in_stack}
 use Rattle.ia32_semantics.specs.Reading.{outcome}
 use Rattle.ia32_semantics.specs.Externs.{answered, extern_row}
 use Rattle.ia32_semantics.specs.CallModel.{IsLaidOut}
-use Rattle.ia32_semantics.specs.Step.{Act, Answers, Step}
+use Rattle.ia32_semantics.specs.Step.{Answers, Step}
 use Rattle.ia32_semantics.proofs.StepLemmas.{steps_stay_laid_out}
-use Rattle.ia32_memory.specs.Mapped.{Mapped, bytes_of, is_in_first}
+use Rattle.ia32_memory.specs.Mapped.{bytes_of}
 use Rattle.image_map.specs.Shapes.{shapes}
 use Rattle.ia32_memory.proofs.ShapeLaws.{same_first}
 use Rattle.ia32_plan.specs.declared.state.Core.{Core}
@@ -34,9 +32,9 @@ use Rattle.ia32_machine.proofs.StepLemmas.{knows_after, performed_maps}
 use Rattle.ia32_run.specs.Choices.{Spreads}
 use Rattle.ia32_run.specs.Answers.{results_of, plain_kind, plain_row, plain_done, IsToldOf}
 use Rattle.ia32_run.specs.Steps.{occurrence, IsDone, CantBeDone}
-use Rattle.ia32_run.proofs.AnswerLemmas.{HasNumber, has_number, first_of, Needs}
+use Rattle.ia32_run.proofs.AnswerLemmas.{has_number, first_of, Needs}
 use Rattle.ia32_run.proofs.ExternLemmas.{RowDone, plain_is, plain_needs}
-use Rattle.ia32_run.proofs.SettledLemmas.{settled, settled_steps, performed_settles, Answered, answer_is_done, cant_unmapped, cant_with}
+use Rattle.ia32_run.proofs.SettledLemmas.{settled, settled_steps, performed_settles, answer_is_done, cant_unmapped, cant_with}
 
 -- -- The return word
 

@@ -3,16 +3,15 @@ use Rattle.std.proofs.Common.{◌≡◌, ◌⊎◌, inl, inr, ℕ, zero, suc, �
 use Rattle.std.specs.Prelude.{Bool, true, false, ◌&&◌, ◌==◌, max, slice_index, Option, Some, None, is_some, Result, Ok, Err, IfOk}
 use Rattle.std.proofs.lemmas.Bool.{false≢true}
 use Rattle.std.proofs.lemmas.Bool.Decides.{nat_tests}
-use Rattle.std.proofs.lemmas.Option.{none-some, same_Some}
+use Rattle.std.proofs.lemmas.Option.{none-some}
 use Rattle.image_map.specs.declared.image.Image.{Image}
 use Rattle.image_map.specs.declared.region.Block.{Block}
-use Rattle.image_map.specs.Whole.{IsImage}
 use Rattle.ia32_types.specs.declared.Instr.{Instr}
 use Rattle.ia32_semantics.specs.State.{State, Bytes, word_at}
 use Rattle.ia32_semantics.specs.Effects.{all_among, is_mapped, is_open, overwritten}
 use Rattle.ia32_semantics.specs.Outcome.{IsBlock, is_in_stack, can_move, leaves}
 use Rattle.ia32_semantics.specs.CallModel.{IsLaidOut}
-use Rattle.ia32_semantics.specs.Step.{Executes, Step}
+use Rattle.ia32_semantics.specs.Step.{Executes}
 use Rattle.ia32_semantics.specs.Externs.{answered}
 use Rattle.ia32_semantics.proofs.EffectLemmas.{by_test, and_left, and_right, overwritten_maps}
 use Rattle.std.proofs.lemmas.Bool.{and_from}
@@ -30,7 +29,7 @@ use Rattle.ia32_machine.proofs.StepLemmas.{knows_after, performed_maps}
 use Rattle.ia32_run.specs.Choices.{base_given, fill_byte}
 use Rattle.ia32_run.specs.Answers.{results_of, with_given}
 use Rattle.ia32_run.specs.Steps.{IsDone, CantBeDone}
-use Rattle.ia32_run.proofs.AnswerLemmas.{HasNumber, has_number, first_of, rest_of}
+use Rattle.ia32_run.proofs.AnswerLemmas.{has_number, first_of, rest_of}
 use Rattle.ia32_run.proofs.AllocLemmas.{base_is_block}
 use Rattle.ia32_run.proofs.FillLemmas.{Filled, all_elements, elements_all, fill_is_over, filled_same, first_is, same_bytes}
 use Rattle.ia32_run.proofs.FaultLemmas.{faults_with_all}

@@ -1,10 +1,10 @@
 -- That an extern answers is a step, and that it can't be done where it can't be.
-use Rattle.std.proofs.Common.{◌≡◌, ℕ, suc, ◌+◌, ◌-◌, ◌<◌, ◌^◌, ◌%◌, List, [], ◌∷◌, ◌++◌, length, drop, refl, sym, ap, ◌∙◌, subst, arith}
-use Rattle.std.specs.Prelude.{Bool, true, false, cond, ◌&&◌, ◌||◌, ◌==◌, nat_lt, if◌then◌else◌, slice_index, Option, Some, None, is_some}
+use Rattle.std.proofs.Common.{◌≡◌, ℕ, suc, ◌+◌, ◌-◌, ◌<◌, ◌^◌, ◌%◌, List, [], ◌++◌, length, drop, refl, sym, ap, ◌∙◌, arith}
+use Rattle.std.specs.Prelude.{Bool, true, false, cond, ◌&&◌, ◌||◌, nat_lt, if◌then◌else◌, slice_index, Option, Some, None, is_some}
 use Rattle.std.proofs.lemmas.Bool.{false≢true}
 use Rattle.std.proofs.lemmas.Bool.Decides.{nat_tests}
 use Rattle.std.proofs.lemmas.List.{append-nil}
-use Rattle.std.proofs.lemmas.Option.{none-some, same_Some}
+use Rattle.std.proofs.lemmas.Option.{same_Some}
 use mathlib.Core.Path.{fun_ext}
 use Rattle.image_map.specs.declared.image.Image.{Image}
 use Rattle.image_map.specs.declared.region.Kind.{Kind}
@@ -17,7 +17,7 @@ use Rattle.ia32_types.specs.declared.Reg.TheVariants.{Eax, Ecx, Edx, Esp}
 use Rattle.ia32_types.specs.declared.Flag.{Flag}
 use Rattle.ia32_types.specs.declared.Flag.TheVariants.{Cf, Pf, Zf, Sf, Of}
 use Rattle.ia32_types.specs.Numbers.{reg_number, flag_number, is_same_reg, is_same_flag}
-use Rattle.ia32_types.proofs.NumberLemmas.{each_reg, each_flag}
+use Rattle.ia32_types.proofs.NumberLemmas.{each_reg}
 use Rattle.ia32_semantics.specs.State.{State, Location, InRegister, InFlag, AtByte}
 use Rattle.ia32_semantics.specs.Reading.{outcome, asks, is_register}
 use Rattle.ia32_semantics.specs.Effects.{effects_write, effects_take, effects_fit, at_byte, all_among, is_mapped}
@@ -26,14 +26,13 @@ use Rattle.ia32_semantics.specs.Outcome as out
 use Rattle.ia32_semantics.specs.Rows.{risen}
 use Rattle.ia32_semantics.specs.Externs.{extern_row}
 use Rattle.ia32_semantics.specs.CallModel.{IsLaidOut}
-use Rattle.ia32_semantics.specs.Step.{Act, Answers, Step, act_row, reads, writes, forgets, outcome_takes, outcome_writes, outcome_forgets, reads_over}
+use Rattle.ia32_semantics.specs.Step.{Act, Answers, Step, act_row, reads, writes, outcome_takes, outcome_writes, outcome_forgets}
 use Rattle.ia32_semantics.proofs.EffectLemmas.{effects_map}
-use Rattle.ia32_memory.specs.Changes.{cleared}
 use Rattle.ia32_memory.specs.Mapped.{bytes_of}
 use Rattle.ia32_plan.specs.declared.state.Core.{Core}
 use Rattle.ia32_machine.specs.declared.touched.StepOut.{StepOut}
 use Rattle.ia32_machine.specs.Steps.{performed}
-use Rattle.ia32_machine.proofs.SpanLemmas.{AreLow, end_low}
+use Rattle.ia32_machine.proofs.SpanLemmas.{end_low}
 use Rattle.ia32_machine.proofs.PlaceLemmas.{mapped_low}
 use Rattle.ia32_machine.proofs.WordLemmas.{more_words}
 use Rattle.ia32_run.specs.Choices.{Spreads}

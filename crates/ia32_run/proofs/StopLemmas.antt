@@ -1,13 +1,13 @@
 -- An extern ends the program, or none of its kind is known.
-use Rattle.std.proofs.Common.{◌≡◌, ℕ, ◌<◌, ◌^◌, ◌%◌, List, [], ◌∷◌, drop, refl, sym, ap, ◌∙◌, arith}
-use Rattle.std.specs.Prelude.{Bool, true, false, cond, ◌&&◌, Option, Some, None, is_some}
+use Rattle.std.proofs.Common.{◌≡◌, ℕ, ◌<◌, ◌^◌, ◌%◌, List, [], drop, refl, sym, ap, ◌∙◌, arith}
+use Rattle.std.specs.Prelude.{Bool, true, false, cond, ◌&&◌, Option, Some, is_some}
 use Rattle.std.proofs.lemmas.Option.{none-some}
 use mathlib.Core.Path.{fun_ext}
 use Rattle.image_map.specs.declared.image.Image.{Image}
 use Rattle.image_map.specs.declared.region.Kind.TheVariants as kind
 use Rattle.ia32_semantics.specs.State.{State, Location, AtByte}
 use Rattle.ia32_semantics.specs.Reading.{outcome}
-use Rattle.ia32_semantics.specs.Outcome.{Outcome, going, is_in_stack, is_below}
+use Rattle.ia32_semantics.specs.Outcome.{going, is_in_stack, is_below}
 use Rattle.ia32_semantics.specs.Externs.{extern_row}
 use Rattle.ia32_semantics.specs.Step.{Answers, reads, writes, outcome_forgets}
 use Rattle.ia32_machine.specs.declared.touched.StepOut.{StepOut}

@@ -1,31 +1,26 @@
 -- The run of a loop of steps: its beginning, one step more, and its end.
-use Rattle.std.proofs.Common.{◌≡◌, ◌⊎◌, ◌↔◌, inl, inr, ℕ, zero, suc, ◌+◌, ◌*◌, ◌-◌, ◌<◌, ◌≤◌, List, [], ◌∷◌, ◌++◌, length, take, drop, refl, sym, ap, ◌∙◌, subst, append_assoc, length-append, arith}
-use Rattle.std.specs.Prelude.{Bool, true, false, ◌&&◌, if◌then◌else◌, slice_get, Option, Some, None, Contains}
+use Rattle.std.proofs.Common.{◌≡◌, inl, inr, ℕ, zero, suc, ◌+◌, ◌*◌, ◌-◌, ◌<◌, ◌≤◌, List, [], ◌∷◌, ◌++◌, length, take, drop, refl, sym, ap, ◌∙◌, subst, append_assoc, length-append, arith}
+use Rattle.std.specs.Prelude.{Bool, true, false, ◌&&◌, if◌then◌else◌, slice_get, Option, Some, None}
 use Rattle.std.proofs.lemmas.Bool.{false≢true}
 use Rattle.std.proofs.lemmas.List.{append-nil}
 use Rattle.std.proofs.lemmas.Option.{none-some, same_Some}
 use Rattle.image_map.specs.declared.image.Image.{Image}
 use Rattle.image_map.specs.declared.region.Settings.{Settings}
-use Rattle.ia32_semantics.specs.State.{State, Location}
+use Rattle.ia32_semantics.specs.State.{State}
 use Rattle.ia32_semantics.specs.Machine.{Occurrence}
-use Rattle.ia32_semantics.specs.Runs.{stands_at, IsRun, Goes as RunGoes}
-use Rattle.ia32_semantics.specs.Dependence.{DataDependence}
+use Rattle.ia32_semantics.specs.Runs.{stands_at, Goes as RunGoes}
 use Rattle.ia32_semantics.specs.Outcome.{is_in_stack, is_below}
 use Rattle.ia32_semantics.specs.Step.{Act, completes, reads, writes}
 use Rattle.ia32_semantics.specs.Ia32.{machine}
-use Rattle.ia32_semantics.proofs.EffectLemmas.{by_test}
 use Rattle.ia32_machine.specs.Machines.{start_state}
 use Rattle.ia32_machine.specs.Touches.{IsTouched}
 use Rattle.ia32_run.specs.declared.log.Occurrence.{Occurrence as Told}
-use Rattle.ia32_run.specs.declared.log.RunLog.{RunLog}
 use Rattle.ia32_run.specs.declared.log.Finish.{Finish}
 use Rattle.ia32_run.specs.declared.log.Finish.TheVariants as finish
 use Rattle.ia32_run.specs.declared.log.Made.{Made}
 use Rattle.ia32_run.specs.declared.writers.Writers.{Writers}
-use Rattle.ia32_run.specs.LastWrites.{ReadsFrom}
 use Rattle.ia32_run.specs.Writers.{KnowsWriters, ListsSources, ForgetsBelow}
-use Rattle.ia32_run.specs.Choices.{Makes}
-use Rattle.ia32_run.specs.Traces.{finish_of, NoStep, Goes, ListsDirect, TellsStep, TellsRun, IsTrace, TracesAreRuns, IsMade, TellsSources, eight_words}
+use Rattle.ia32_run.specs.Traces.{finish_of, NoStep, Goes, ListsDirect, TellsRun, IsTrace, TracesAreRuns, IsMade, TellsSources, eight_words}
 use Rattle.ia32_run.proofs.WordLemmas.{eight_dropped, left_dropped}
 use Rattle.ia32_run.proofs.DependenceLemmas as dependence
 

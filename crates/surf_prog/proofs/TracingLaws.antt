@@ -1,9 +1,9 @@
 -- The text of a run, piece by piece.
-use Rattle.std.proofs.Common.{◌≡◌, ◌⊎◌, inl, inr, ℕ, zero, suc, ◌+◌, ◌-◌, ◌*◌, ◌<◌, ◌≤◌, ◌^◌, List, [], ◌∷◌, ◌++◌, length, take, get_or, map, refl, sym, ap, ◌∙◌, subst, append_assoc, arith}
+use Rattle.std.proofs.Common.{◌≡◌, inl, inr, ℕ, zero, suc, ◌+◌, ◌-◌, ◌<◌, ◌≤◌, List, [], ◌∷◌, ◌++◌, length, take, get_or, map, refl, sym, ap, ◌∙◌, subst, append_assoc, arith}
 use Rattle.std.specs.Prelude.{codes, Bool, true, false, ◌&&◌, nat_le, if◌then◌else◌, slice_get, Option, Some, None}
 use Rattle.std.proofs.lemmas.Bool.{false≢true}
 use Rattle.std.proofs.lemmas.Bool.Decides.{nat_tests}
-use Rattle.std.proofs.lemmas.List.{append-nil, take_more, take_all}
+use Rattle.std.proofs.lemmas.List.{append-nil, take_more}
 use Rattle.std.proofs.lemmas.Option.{none-some, same_Some}
 use Rattle.std.specs.Fmt.{decimal}
 use Rattle.std.specs.Str.{bytes_eq}
@@ -22,7 +22,7 @@ use Rattle.ia32_run.specs.declared.log.RunLog.{RunLog}
 use Rattle.ia32_run.specs.declared.log.Finish.{Finish}
 use Rattle.ia32_run.specs.Acts.{AreKnown}
 use Rattle.ia32_run.specs.Traces.{Goes, IsTrace}
-use Rattle.surf_prog.specs.Tracing.{next_word, seed_words, kind_after, ends_program, reads_one_word, reads_no_word, reads_text, reads_two_texts, known_kind, is_kind, bounded, kind_or_known, kind_named, kind_of, settings_of, spaced, step_line, step_lines}
+use Rattle.surf_prog.specs.Tracing.{next_word, seed_words, kind_after, ends_program, reads_one_word, reads_no_word, reads_text, reads_two_texts, known_kind, is_kind, kind_or_known, kind_named, kind_of, settings_of, spaced, step_line, step_lines}
 
 -- -- Words of choice
 

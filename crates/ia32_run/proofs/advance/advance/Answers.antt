@@ -1,11 +1,11 @@
 use Rattle.std.proofs.Common.{◌≡◌, length, refl, sym, ap, ◌∙◌, rules}
 use Rattle.std.specs.Prelude.{◌&&◌, ◌==◌, Err}
-use Rattle.std.proofs.lemmas.Option.{none-some, same_Some}
+use Rattle.std.proofs.lemmas.Option.{same_Some}
 use Rattle.ia32_machine.specs.declared.step.StepError.TheVariants as StepError
 use Rattle.ia32_machine.specs.Machines.{state_of}
 use Rattle.ia32_run.specs.Acts.{act_of}
 use Rattle.ia32_run.specs.Steps.{occurrence}
-use Rattle.ia32_run.proofs.AdvanceLemmas.{slot_stays, done_is_made, no_act, cant_act, single_is}
+use Rattle.ia32_run.proofs.AdvanceLemmas.{slot_stays, done_is_made, cant_act, single_is}
 use Rattle.ia32_run.proofs.advance.advance.Goals as goal
 
 pub returns-in-Err-clause-fault : goal.returns-in-Err-clause-fault

@@ -1,5 +1,4 @@
 use Rattle.std.proofs.Common.{sym, subst, ap}
-use Rattle.ia32_semantics.specs.Step.{Act}
 use Rattle.ia32_machine.specs.Machines.{state_of}
 use Rattle.ia32_run.specs.Acts.{act_of}
 use Rattle.ia32_run.specs.Steps.{IsDone, CantBeDone}

@@ -1,10 +1,10 @@
-use Rattle.std.proofs.Common.{List, ◌∷◌, refl, sym, subst, ap, ◌∙◌, arith}
+use Rattle.std.proofs.Common.{List, refl, sym, subst, ap, ◌∙◌, arith}
 use Rattle.std.specs.Prelude.{ℕ, false, reverse, slice_index, ◌==◌}
 use Rattle.std.proofs.lemmas.Bool.{false≢true}
 use Rattle.image_map.specs.declared.spans.Span.{Span}
 use Rattle.image_map.specs.declared.region.Activation.{Activation}
 use Rattle.image_map.specs.declared.region.Block.{Block}
-use Rattle.ia32_semantics.specs.State.{State, newest_site}
+use Rattle.ia32_semantics.specs.State.{newest_site}
 use Rattle.ia32_semantics.specs.Outcome.{can_move}
 use Rattle.ia32_semantics.specs.Externs.{answered}
 use Rattle.ia32_memory.specs.Mapped.{bytes_of}

@@ -1,20 +1,17 @@
-use Rattle.std.proofs.Common.{◌≡◌, ◌+◌, ◌*◌, ◌<◌, ◌/◌, ◌%◌, ◌^◌, List, ◌∷◌, refl, sym, subst, ap, ◌∙◌, arith, replicate}
-use Rattle.std.specs.Prelude.{ℕ, true, false, ◌&&◌, max, reverse, slice_index, is_some, Some}
-use Rattle.image_map.specs.declared.spans.Span.{Span}
+use Rattle.std.proofs.Common.{◌+◌, ◌*◌, ◌%◌, ◌^◌, List, sym, subst, ap, ◌∙◌, arith}
+use Rattle.std.specs.Prelude.{ℕ, false, ◌&&◌, max, reverse, slice_index}
 use Rattle.image_map.specs.declared.region.Activation.{Activation}
-use Rattle.ia32_semantics.specs.State.{State, Bytes, word_at}
-use Rattle.ia32_semantics.specs.Effects.{all_among, is_mapped, is_open, overwritten}
+use Rattle.ia32_semantics.specs.State.{State, word_at}
+use Rattle.ia32_semantics.specs.Effects.{all_among, is_open}
 use Rattle.ia32_semantics.specs.Outcome.{can_move, is_in_stack}
-use Rattle.ia32_semantics.specs.Externs.{answered}
 use Rattle.ia32_memory.specs.Mapped.{bytes_of}
 use Rattle.ia32_memory.proofs.ShapeLaws.{same_first}
 use Rattle.ia32_plan.specs.declared.entries.Calls.TheVariants as calls
 use Rattle.ia32_plan.specs.Plans.{move_of}
 use Rattle.ia32_machine.specs.Machines.{state_of}
-use Rattle.ia32_machine.specs.Steps.{performed}
 use Rattle.ia32_machine.proofs.PlaceLemmas.{mapped_low}
 use Rattle.ia32_run.specs.Choices.{fill_byte}
-use Rattle.ia32_run.specs.Answers.{results_of, IsToldOf}
+use Rattle.ia32_run.specs.Answers.{IsToldOf}
 use Rattle.ia32_run.proofs.FillLemmas.{fill_is_done, fill_laid_out, fill_unmapped, fill_impossible}
 use Rattle.ia32_run.proofs.RangeLemmas.{range_closed, range_opened, open_mapped, later_false, Filling, filled_known, filled_maps, after_maps, after_slot, filled_place}
 use Rattle.ia32_run.proofs.PlainLemmas.{runs_on}

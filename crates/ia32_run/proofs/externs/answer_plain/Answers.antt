@@ -1,5 +1,5 @@
 use Rattle.std.proofs.Common.{List, ◌+◌, ◌*◌, refl, sym, subst, ap, ◌∙◌, arith}
-use Rattle.std.specs.Prelude.{reverse, slice_index}
+use Rattle.std.specs.Prelude.{reverse}
 use Rattle.image_map.specs.declared.region.Activation.{Activation}
 use Rattle.ia32_semantics.specs.State.{State}
 use Rattle.ia32_semantics.specs.Outcome.{can_move}

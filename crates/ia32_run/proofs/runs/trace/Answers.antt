@@ -1,11 +1,10 @@
-use Rattle.std.proofs.Common.{◌≡◌, ◌+◌, ◌*◌, ◌≤◌, ◌<◌, ◌++◌, ◌∷◌, [], length, drop, refl, sym, ap, subst, ◌∙◌, arith}
-use Rattle.std.specs.Prelude.{ℕ, Option, Some, None, Err}
+use Rattle.std.proofs.Common.{◌+◌, ◌≤◌, ◌<◌, ◌++◌, length, drop, sym, ap, subst, ◌∙◌, arith}
+use Rattle.std.specs.Prelude.{Err}
 use Rattle.ia32_semantics.specs.State.{State}
 use Rattle.ia32_machine.specs.Machines.{state_of}
-use Rattle.ia32_run.specs.declared.log.Finish.{Finish}
-use Rattle.ia32_run.specs.Traces.{NoStep, eight_words}
+use Rattle.ia32_run.specs.Traces.{NoStep}
 use Rattle.ia32_run.proofs.WordLemmas.{eight_dropped}
-use Rattle.ia32_run.proofs.TraceLemmas.{Next, next_of, kept_start, kept_more, trace_completed, trace_limited, trace_faulted}
+use Rattle.ia32_run.proofs.TraceLemmas.{next_of, kept_start, kept_more, trace_completed, trace_limited, trace_faulted}
 use Rattle.ia32_run.proofs.runs.trace.Goals as goal
 
 pub run-init : goal.run-init
