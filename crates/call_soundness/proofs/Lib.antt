@@ -13,4 +13,5 @@ pub mod BackLaws
 pub mod LeaveLaws
 pub mod ExternLaws
 pub mod AllocLaws
+pub mod AccessLaws
 pub mod RowLaws

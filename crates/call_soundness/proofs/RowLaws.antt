@@ -16,7 +16,10 @@ use Rattle.ia32_semantics.specs.CallModel.{IsWhole}
 use Rattle.ia32_semantics.specs.Fetch.{IsFetched}
 use Rattle.ia32_semantics.specs.Ia32.{machine}
 use Rattle.ia32_semantics.specs.Machine.{Occurrence}
-use Rattle.ia32_semantics.specs.Step.{Act, Executes, Answers, Step, IsActAt, IsExternAt, completes, act_completes, operation_completes, kind_completes, returns_to_halt}
+use Rattle.ia32_semantics.specs.Externs as externs
+use Rattle.ia32_semantics.specs.Reading.{outcome}
+use Rattle.ia32_semantics.specs.Rows as rows
+use Rattle.ia32_semantics.specs.Step.{act_row, Act, Executes, Answers, Step, IsActAt, IsExternAt, completes, act_completes, operation_completes, kind_completes, returns_to_halt}
 use Rattle.abs_semantics.specs.States.{AbsState}
 use Rattle.abs_semantics.specs.Ownership.{IsKnown}
 use Rattle.abs_steps.specs.declared.warnings.WarnName.{WarnName}
@@ -28,10 +31,10 @@ use Rattle.call_strings.specs.declared.context.Node.{Node}
 use Rattle.call_strings.specs.Nodes.{pushed}
 use Rattle.slice_soundness.specs.Nodes.{running, IsRooted}
 use Rattle.slice_soundness.specs.Maps.{here}
-use Rattle.slice_soundness.specs.Premises.{IsReady, Comes, GoesOn, Stays, Calls, Returns}
+use Rattle.slice_soundness.specs.Premises.{IsReady, Comes, GoesOn, Stays, Calls, Returns, Row}
 use Rattle.step_soundness.specs.Steps.{is_plain, IsExecuted}
 use Rattle.call_soundness.specs.Maps.{IsListed, is_empty, warned_by, state_in, Drawn, map_of}
-use Rattle.call_soundness.specs.Laws.{is_staying, only_reads}
+use Rattle.call_soundness.specs.Laws.{is_staying, only_reads, is_told, is_told_of}
 use Rattle.call_soundness.proofs.ContentLaws.{fetched_stands, extern_stands}
 use Rattle.call_soundness.proofs.EnterLaws.{Enters, call_enters}
 use Rattle.call_soundness.proofs.BackLaws.{Leaves}
@@ -209,3 +212,43 @@ reading_row image settings states drawn o at k is goes act reads =
     let ready = goes.comes.ready in
     let m = answers image settings states drawn is o ready at k act goes.comes.happens.act goes.comes.happens.step reads goes.not_last in
     (returns image settings states drawn is o ready m, m.whole)
+
+-- All acts but strings, and externs that allocate or write.
+module _ (image : Image) (settings : Settings) (states : States) (drawn : Drawn) (o : Occurrence Act) (is : IsImage image) (goes : GoesOn (machine image settings) (map_of image settings states drawn) o) where
+  abbrev Told : Type 0
+  Told = Row (machine image settings) (map_of image settings states drawn) o × IsWhole image o.after
+
+  ends_here : (c : Act) → o.act ≡ c → act_completes c o ≡ true → Told
+  ends_here c e t = absurd (true≢false (sym t ∙ sym (ap (λ x. act_completes x o) e) ∙ goes.not_last))
+
+  no_outcome : (c : Act) → o.act ≡ c → outcome (act_row c) o.before o.choices ≡ None → Told
+  no_outcome c e none =
+      let step = goes.comes.happens.step in
+      absurd (none-some _ (sym none ∙ ap (λ x. outcome (act_row x) o.before o.choices) (sym e) ∙ step.row))
+
+  instruction_row : (i : Instr) → o.act ≡ Executes i → (c : Op) → i.op ≡ c → is_told_of c ≡ true → Told
+  unfolding is_plain rows.row
+  instruction_row i act op.Call e t = let row = calling_row image settings states drawn o i is goes act e in (inr (inl row.0), row.1)
+  instruction_row i act op.Ret e t = let row = returning_row image settings states drawn o i is goes act e in (inr (inr row.0), row.1)
+  instruction_row i act op.Hlt e t = ends_here (Executes i) act (ap (λ c. operation_completes c o) e)
+  instruction_row i act op.Int3 e t = no_outcome (Executes i) act (ap (λ c. outcome (rows.row c i) o.before o.choices) e)
+  instruction_row i act op.Ud2 e t = no_outcome (Executes i) act (ap (λ c. outcome (rows.row c i) o.before o.choices) e)
+  instruction_row i act (op.Movs r) e t = absurd (false≢true t)
+  instruction_row i act (op.Stos r) e t = absurd (false≢true t)
+  instruction_row i act _ e t = let row = staying_row image settings states drawn o i is goes act (ap is_staying e) in (inl row.0, row.1)
+
+  extern_told : (at : ℕ) (k : Kind) → o.act ≡ Answers at k → is_told (Answers at k) ≡ true → Told
+  unfolding externs.extern_row
+  extern_told at (kind.Pure j) act t = let row = reading_row image settings states drawn o at (kind.Pure j) is goes act refl in (inr (inr row.0), row.1)
+  extern_told at (kind.Reader j) act t = let row = reading_row image settings states drawn o at (kind.Reader j) is goes act refl in (inr (inr row.0), row.1)
+  extern_told at kind.Alloc act t = absurd (false≢true t)
+  extern_told at kind.Stop act t = ends_here (Answers at kind.Stop) act refl
+  extern_told at kind.Unknown act t = no_outcome (Answers at kind.Unknown) act refl
+  extern_told at (kind.Fills b l) act t = absurd (false≢true t)
+
+  pub told_row : is_told o.act ≡ true → Told
+  told_row told = by o.act refl told
+    where
+      by : (c : Act) → o.act ≡ c → is_told c ≡ true → Told
+      by (Executes i) e t = instruction_row i e i.op refl t
+      by (Answers at k) e t = extern_told at k e t

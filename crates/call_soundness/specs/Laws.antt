@@ -27,8 +27,8 @@ use Rattle.vset.specs.World.{key_of}
 use Rattle.abs_steps.specs.Calls.{called, returned, allocated}
 use Rattle.abs_steps.specs.Places.{Content, Instruction, Extern, content_at}
 use Rattle.abs_steps.specs.Successors.{States}
-use Rattle.slice_soundness.specs.Premises.{GoesOn, Stays, Calls, Returns}
-use Rattle.step_soundness.specs.Steps.{is_plain}
+use Rattle.slice_soundness.specs.Premises.{GoesOn, Stays, Calls, Returns, Row}
+use Rattle.step_soundness.specs.Steps.{is_plain, IsExecuted, KeepsToAccesses}
 use Rattle.call_soundness.specs.Calls.{IsCalled, IsReturned, IsAllocated}
 use Rattle.call_soundness.specs.Maps.{Drawn, map_of}
 
@@ -84,6 +84,25 @@ ReadersAreRows =
     → GoesOn (machine image settings) (map_of image settings states drawn) o → o.act ≡ Answers at k → only_reads k ≡ true
     → Returns (machine image settings) (map_of image settings states drawn) o × IsWhole image o.after
 
+-- an act of which the laws above speak, or after which no run goes on: all but strings, and externs that allocate or write
+abbrev pub is_told_of : Op → Bool
+is_told_of (op.Movs repeated) = false
+is_told_of (op.Stos repeated) = false
+is_told_of _ = true
+
+abbrev pub is_told : Act → Bool
+is_told (Executes i) = is_told_of i.op
+is_told (Answers at kind.Alloc) = false
+is_told (Answers at (kind.Fills buffer length)) = false
+is_told (Answers at k) = true
+
+-- From a state that the map knows each such act that isn't the last of a run is a row, and leaves a whole state.
+abbrev pub StepsAreRows : Type 0
+StepsAreRows =
+    (image : Image) (settings : Settings) (states : States) (drawn : Drawn) (o : Occurrence Act) → IsImage image
+    → GoesOn (machine image settings) (map_of image settings states drawn) o → is_told o.act ≡ true
+    → Row (machine image settings) (map_of image settings states drawn) o × IsWhole image o.after
+
 -- After a call the abstract state after it stands for the state: at a node of procedure p, where the return slot lies so far from the base
 -- of p's newest activation.
 abbrev pub CalledStatesStand : Type 0
@@ -105,3 +124,16 @@ AllocatedStatesStand =
     (lane : ℕ) (a : AbsState) (s t : State) (new : Allocation) (argument : Values) → HasCanonical a → StandsFor lane a s → IsAllocated s t new
     → HasValue lane (world_of s) new.size argument → new.size < 2 ^ 32 → a.fact ≡ None
     → (known_of (Heap (key_of lane new)) a.aligns ≡ None) × (known_of (OldHeap (key_of lane new)) a.aligns ≡ None) → StandsFor lane (allocated (key_of lane new) argument a) t
+
+-- jumps, branches, calls and returns
+abbrev pub is_control : Op → Bool
+is_control op.Jmp = true
+is_control (op.Jcc c) = true
+is_control op.Call = true
+is_control op.Ret = true
+is_control _ = false
+
+-- each byte that such an instruction reads or writes is accessed
+abbrev pub ControlStepsKeepToAccesses : Type 0
+ControlStepsKeepToAccesses =
+    (image : Image) (lane : ℕ) (a : AbsState) (p : ℕ) (d : Division) (i : Instr) (o : Occurrence Act) → IsExecuted image lane a p d i o → is_control i.op ≡ true → KeepsToAccesses lane a i o

@@ -1,6 +1,6 @@
 //! Laws of the definitions.
 
-ghost use Rattle.call_soundness.specs.Laws.{FetchedInstructionsStand, ExternsStand, StayingStepsAreRows, CallsAreRows, ReturnsAreRows, ReadersAreRows, CalledStatesStand, ReturnedStatesStand, AllocatedStatesStand};
+ghost use Rattle.call_soundness.specs.Laws.{FetchedInstructionsStand, ExternsStand, StayingStepsAreRows, CallsAreRows, ReturnsAreRows, ReadersAreRows, StepsAreRows, CalledStatesStand, ReturnedStatesStand, AllocatedStatesStand, ControlStepsKeepToAccesses};
 
 /// An instruction that is fetched at an address is what stands there.
 pub fn fetched_instructions_stand()
@@ -35,6 +35,11 @@ pub fn readers_are_rows()
     ensures { ReadersAreRows }
 {}
 
+/// From a state that a map knows, each act but strings, and externs that allocate or write, is a row of the map and leaves a whole state.
+pub fn steps_are_rows()
+    ensures { StepsAreRows }
+{}
+
 /// After a call the abstract state after it stands for the state.
 pub fn called_states_stand()
     ensures { CalledStatesStand }
@@ -43,6 +48,11 @@ pub fn called_states_stand()
 /// So it does after a return.
 pub fn returned_states_stand()
     ensures { ReturnedStatesStand }
+{}
+
+/// Each byte that a jump, a branch, a call or a return reads or writes is accessed.
+pub fn control_steps_keep_to_accesses()
+    ensures { ControlStepsKeepToAccesses }
 {}
 
 /// After an allocation, where nothing is remembered of a comparison or of how blocks of its key are aligned, the abstract state after it

@@ -5,7 +5,7 @@
 mod laws;
 
 pub use laws::{
-    allocated_states_stand, called_states_stand, calls_are_rows, externs_stand,
-    fetched_instructions_stand, readers_are_rows, returned_states_stand, returns_are_rows,
-    staying_steps_are_rows,
+    allocated_states_stand, called_states_stand, calls_are_rows, control_steps_keep_to_accesses,
+    externs_stand, fetched_instructions_stand, readers_are_rows, returned_states_stand,
+    returns_are_rows, staying_steps_are_rows, steps_are_rows,
 };
