@@ -1,14 +1,23 @@
 //! What accesses say of the cuts of regions.
-ghost use Rattle.std.specs.Prelude.{◌≡◌, ◌≤◌, ◌++◌, ◌+ℤ◌, pos, map, OnOk};
+ghost use Rattle.std.specs.Prelude.{[], cond, ◌≡◌, ◌≤◌, ◌++◌, ◌+ℤ◌, pos, map, OnOk};
 ghost use Rattle.std.specs.Int.{int_min};
 ghost use Rattle.std.specs.List.{flat_map};
 ghost use Rattle.strided.specs.Interval.{greatest};
 ghost use Rattle.strided.specs.Operations.{count};
-ghost use Rattle.access_facts.specs.Facts.{are_elements as are_elements_spec, bounds as bounds_spec, elements as elements_spec, facts_of_copies, facts_of_copy, facts_of_part, facts_of_parts, facts_of_reach, same as same_spec, same_as_next};
+ghost use Rattle.image_map.specs.declared.region.Kind.{Kind};
+ghost use Rattle.abs_state.specs.Views.{seen};
+ghost use Rattle.abs_steps.specs.Accesses.{extern_reads, extern_writes, reads as reads_spec, writes as writes_spec};
+ghost use Rattle.abs_steps.specs.Places.{Extern, Instruction};
+ghost use Rattle.abs_steps.specs.Views.{View};
+ghost use Rattle.access_facts.specs.Reach.{reaches as reaches_spec};
+ghost use Rattle.access_facts.specs.Facts.{facts_at, are_elements as are_elements_spec, bounds as bounds_spec, elements as elements_spec, facts_of_copies, facts_of_copy, facts_of_part, facts_of_parts, facts_of_reach, same as same_spec, same_as_next};
 
 use crate::cells::home;
+use crate::counts::copies;
 use crate::reach::Reach;
+use abs_state::AbsState;
 use asi_cuts::Constraint;
+use ia32_types::Instr;
 use std::alloc::AllocError;
 use vset::Part;
 
@@ -173,5 +182,49 @@ pub(crate) fn push_copies(
     for reach in from {
         push_copies_of(facts, reach, to)?;
     }
+    Ok(())
+}
+
+fn push_copies_if(
+    facts: &mut Vec<Constraint>,
+    copied: bool,
+    from: &[Reach],
+    to: &[Reach],
+) -> Result<(), AllocError>
+    ensures { OnOk result (facts.new.items ≡ facts.old.items ++ cond copied (facts_of_copies from.now to.now) []) }
+{
+    if copied {
+        push_copies(facts, from, to)?;
+    }
+    Ok(())
+}
+
+/// What an instruction says by how far its reads and writes may reach, at the end of other facts.
+pub(crate) fn push_instruction(
+    facts: &mut Vec<Constraint>,
+    state: &AbsState,
+    instr: &Instr,
+    reads: &[Reach],
+    writes: &[Reach],
+) -> Result<(), AllocError>
+    ensures { (v : View) → v.state ≡ seen state.now → reads.now ≡ reaches_spec v (reads_spec instr.now.op v.state instr.now) → writes.now ≡ reaches_spec v (writes_spec instr.now.op v.state instr.now) → OnOk result (facts.new.items ≡ facts.old.items ++ facts_at v (Instruction instr.now)) }
+{
+    push_reaches(facts, reads)?;
+    push_reaches(facts, writes)?;
+    let copied = copies(state, &instr.op, &instr.width);
+    push_copies_if(facts, copied, reads, writes)?;
+    Ok(())
+}
+
+/// What an extern says.
+pub(crate) fn push_extern(
+    facts: &mut Vec<Constraint>,
+    reads: &[Reach],
+    writes: &[Reach],
+) -> Result<(), AllocError>
+    ensures { (v : View) (k : Kind) → reads.now ≡ reaches_spec v (extern_reads v.state k) → writes.now ≡ reaches_spec v (extern_writes v k) → OnOk result (facts.new.items ≡ facts.old.items ++ facts_at v (Extern k)) }
+{
+    push_reaches(facts, reads)?;
+    push_reaches(facts, writes)?;
     Ok(())
 }

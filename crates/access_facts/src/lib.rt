@@ -18,6 +18,11 @@ mod places;
 mod reach;
 mod rows;
 mod sets;
+mod visits;
 
 pub use laws::{must_definitions_are_definitions, places_of_cells, places_rise};
 pub use reach::{Reach, reaches};
+pub use visits::Listed;
+
+#[cfg(test)]
+mod tests;
