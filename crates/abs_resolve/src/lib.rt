@@ -10,5 +10,5 @@ mod search;
 mod tests;
 mod verdicts;
 
-pub use owners::{Owners, known_of};
+pub use owners::Owners;
 pub use search::Places;

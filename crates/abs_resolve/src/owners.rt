@@ -2,11 +2,12 @@
 
 ghost use Rattle.std.specs.Prelude.{◌≡◌, ◌==◌, ◌&&◌, not, if◌then◌else◌};
 ghost use Rattle.abs_semantics.specs.declared.parts.Link.{Link};
-ghost use Rattle.abs_semantics.specs.States.{has_procedure, known_of as known_of_spec};
+ghost use Rattle.abs_semantics.specs.States.{has_procedure, known_of};
 ghost use Rattle.abs_semantics.specs.Resolve.{most_links, size_or_none};
 ghost use Rattle.abs_resolve.specs.Owned.{owned, state_of};
 
 use abs_semantics::{Known, Link};
+use cell_map::known_number;
 use image_map::RegionId;
 
 /// What of an abstract state tells where addresses lie.
@@ -17,18 +18,6 @@ pub struct Owners<'a> {
     links: &'a [Link],
     blocks: &'a [Known],
     root: u32,
-}
-
-/// The number that is known of a region.
-pub fn known_of(region: &RegionId, known: &[Known]) -> Option<u32>
-    ensures { result ≡ known_of_spec region.now known.now }
-{
-    for k in known {
-        if k.region == *region {
-            return Some(k.number);
-        }
-    }
-    None
 }
 
 /// Whether a link is one of a child of this age.
@@ -87,8 +76,8 @@ impl<'a> Owners<'a> {
 
     /// A size that each block of a region has at least, and 0 where there is none.
     pub(crate) fn size_of(&self, region: &RegionId) -> u32
-        ensures { result ≡ size_or_none (known_of_spec region.now (state_of self.now).blocks) }
+        ensures { result ≡ size_or_none (known_of region.now (state_of self.now).blocks) }
     {
-        known_of(region, self.blocks).unwrap_or(0)
+        known_number(self.blocks, region).unwrap_or(0)
     }
 }
