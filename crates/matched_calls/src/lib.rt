@@ -18,3 +18,6 @@ pub use graph::{MatchedGraph, matched_graph};
 pub use kinds::{StepKinds, are_kinds_of};
 pub use laws::matched_laws;
 pub use slice::{MatchedError, matched_backward};
+
+#[cfg(test)]
+mod tests;
