@@ -95,13 +95,13 @@ fact_equal f g e =
     let bound = same_interval-equal f.bound g.bound both.1 in
     λ i. record { place = place i; bound = bound i }
 
-facts_equal : (f g : Option CmpFact) → same_facts f g ≡ true → f ≡ g
+pub facts_equal : (f g : Option CmpFact) → same_facts f g ≡ true → f ≡ g
 facts_equal None None e = refl
 facts_equal None (Some g) e = absurd (cc e)
 facts_equal (Some f) None e = absurd (cc e)
 facts_equal (Some f) (Some g) e = ap (λ x. Some x) (fact_equal f g e)
 
-facts_itself : (f : Option CmpFact) → same_facts f f ≡ true
+pub facts_itself : (f : Option CmpFact) → same_facts f f ≡ true
 facts_itself None = refl
 facts_itself (Some f) = and_from _ _ (place_itself f.place) (same_interval-itself f.bound)
 
