@@ -1,0 +1,5 @@
+pub mod TableLemmas
+pub mod OrderLemmas
+pub mod SameLemmas
+pub mod LookLemmas
+pub mod LawfulLemmas

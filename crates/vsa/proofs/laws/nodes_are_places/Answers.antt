@@ -1,0 +1,5 @@
+use Rattle.vsa.proofs.LawfulLemmas.{analysis_lawful}
+use Rattle.vsa.proofs.laws.nodes_are_places.Goals as goal
+
+pub returns : goal.returns
+returns c = record { lawful = analysis_lawful }

@@ -1,0 +1,4 @@
+pub mod Topped
+pub mod Tables
+pub mod Same
+pub mod Analysis
