@@ -16,7 +16,7 @@ use Rattle.ia32_types.specs.Places as places
 use Rattle.ia32_semantics.specs.declared.flags.FlagsOut.{FlagsOut}
 use Rattle.ia32_semantics.specs.declared.flags.FlagOut.{FlagOut}
 use Rattle.ia32_semantics.specs.declared.flags.FlagOut.TheVariants as out
-use Rattle.ia32_semantics.specs.State.{State, Location, InRegister, InFlag}
+use Rattle.ia32_semantics.specs.State.{State, Location, InRegister, InFlag, AtByte}
 use Rattle.ia32_semantics.specs.Effects.{Effect, Whole, Word, Low, High, sets, turns, stores, copies, effect_takes, effects_write, effects_take, effect_writes}
 use Rattle.ia32_semantics.specs.Operands.{address, part_of, store, store_to, is_set, any_word, any_flag, any_flags, flag_effect, flag_effects}
 use Rattle.ia32_semantics.specs.Laws.{has_register}
@@ -42,6 +42,9 @@ write_append (e ∷ es) fs l = ap (λ b. effect_writes e l || b) (write_append e
 pub take_append : (es fs : List Effect) (l : Location) → effects_take (es ++ fs) l ≡ (effects_take es l || effects_take fs l)
 take_append [] fs l = refl
 take_append (e ∷ es) fs l = ap (λ b. effect_takes e l || b) (take_append es fs l) ∙ sym (or_assoc (effect_takes e l) (effects_take es l) (effects_take fs l))
+
+pub none_append : (es fs : List Effect) (l : Location) → effects_write es l ≡ false → effects_write fs l ≡ false → effects_write (es ++ fs) l ≡ false
+none_append es fs l first second = write_append es fs l ∙ ap (λ b. b || effects_write fs l) first ∙ second
 
 pub changes_both : (p q f g : ℕ → Bool) (t u : List Reg) (es fs : List Effect) → Changes p f t es → Changes q g u fs
     → Changes (λ n. p n || q n) (λ n. f n || g n) (t ++ u) (es ++ fs)
@@ -164,3 +167,18 @@ flags_within s R f =
     within_bind s R (IsDrawn f.sf) (AreDrawn f) (any_flag f.sf) _ (flag_drawn s R f.sf) (λ sf t.
     within_bind s R (IsDrawn f.of) (AreDrawn f) (any_flag f.of) _ (flag_drawn s R f.of) (λ of u.
     within_gives s R (AreDrawn f) _ (record { cf = p; pf = q; zf = r; sf = t; of = u }))))))
+
+-- -- Flags are no bytes
+
+flag_writes_none : (n : ℕ) (o : FlagOut) (byte : ℕ) → effects_write (flag_effect n o) (AtByte byte) ≡ false
+flag_writes_none n (out.Set value) byte = refl
+flag_writes_none n out.Kept byte = refl
+flag_writes_none n out.Undefined byte = refl
+
+pub flags_write_none : (f : FlagsOut) (byte : ℕ) → effects_write (flag_effects f) (AtByte byte) ≡ false
+flags_write_none f byte =
+    none_append (((flag_effect 0 f.cf ++ flag_effect 1 f.pf) ++ flag_effect 2 f.zf) ++ flag_effect 3 f.sf) (flag_effect 4 f.of) (AtByte byte)
+    (none_append ((flag_effect 0 f.cf ++ flag_effect 1 f.pf) ++ flag_effect 2 f.zf) (flag_effect 3 f.sf) (AtByte byte)
+    (none_append (flag_effect 0 f.cf ++ flag_effect 1 f.pf) (flag_effect 2 f.zf) (AtByte byte)
+    (none_append (flag_effect 0 f.cf) (flag_effect 1 f.pf) (AtByte byte) (flag_writes_none 0 f.cf byte) (flag_writes_none 1 f.pf byte))
+    (flag_writes_none 2 f.zf byte)) (flag_writes_none 3 f.sf byte)) (flag_writes_none 4 f.of byte)

@@ -1,11 +1,13 @@
 -- What effects leave alone, what they make of it, and that they keep registers and bytes in their ranges.
-use Rattle.std.proofs.Common.{◌≡◌, ℕ, zero, suc, ◌+◌, ◌*◌, ◌/◌, ◌%◌, ◌^◌, ◌<◌, List, [], ◌∷◌, refl, sym, ap, subst, ◌∙◌, eqb-true, arith}
+use Rattle.std.proofs.Common.{◌≡◌, ℕ, zero, suc, ◌+◌, ◌*◌, ◌/◌, ◌%◌, ◌^◌, ◌<◌, List, [], ◌∷◌, refl, sym, ap, subst, ◌∙◌, eqb-true, arith, ◌++◌}
 use Rattle.std.specs.Prelude.{Bool, true, false, cond, not, ◌&&◌, ◌||◌, ◌==◌, Some, is_some}
 use Rattle.std.proofs.lemmas.Bool.{false≢true, or_right, or_left, and_from, not_from_false}
 use Rattle.std.proofs.lemmas.Option.{same_Some}
+use Rattle.std.proofs.Math.Bool.{and_assoc}
 use Rattle.image_map.specs.declared.image.Image.{Image}
 use Rattle.image_map.specs.Queries.{is_in_segment, is_writable}
 use Rattle.ia32_semantics.specs.State.{State, Bytes, Location, InRegister, InFlag, AtByte, SameAt, put}
+use Rattle.ia32_semantics.specs.Externs.{byte_over}
 use Rattle.ia32_semantics.specs.Effects.{Effect, Part, Whole, Word, Low, High, sets, turns, stores, copies, with_part, overwritten, byte_or_zero, bytes_from, changed, all_changed, is_among, is_of_bytes, is_whole, effect_writes, effects_write, effect_takes, effects_take, is_open, all_among, all_of_bytes, is_mapped, effect_fits, effects_fit}
 use Rattle.ia32_semantics.proofs.ReadingLemmas.{AgreeOn, same_number}
 
@@ -197,7 +199,7 @@ all_of_bytes_same : (p q : ℕ → Bool) (a : ℕ) (bytes : List ℕ) → ((x : 
 all_of_bytes_same p q a [] same = refl
 all_of_bytes_same p q a (byte ∷ rest) same = ap (λ b. b && all_of_bytes p (a + 1) rest) (same a) ∙ ap (λ b. q a && b) (all_of_bytes_same p q (a + 1) rest same)
 
-all_among_same : (p q : ℕ → Bool) (a n : ℕ) → ((x : ℕ) → p x ≡ q x) → all_among p a n ≡ all_among q a n
+pub all_among_same : (p q : ℕ → Bool) (a n : ℕ) → ((x : ℕ) → p x ≡ q x) → all_among p a n ≡ all_among q a n
 all_among_same p q a zero same = refl
 all_among_same p q a (suc n) same = ap (λ b. b && all_among p (a + 1) n) (same a) ∙ ap (λ b. q a && b) (all_among_same p q (a + 1) n same)
 
@@ -291,3 +293,23 @@ same_slot (sets part n value ∷ es) s = same_slot es (changed (sets part n valu
 same_slot (turns n value ∷ es) s = same_slot es (changed (turns n value) s)
 same_slot (stores a bytes ∷ es) s = same_slot es (changed (stores a bytes) s)
 same_slot (copies to from n ∷ es) s = same_slot es (changed (copies to from n) s)
+
+-- -- One list of effects after another
+
+pub changed_append : (es fs : List Effect) (s : State) → all_changed (es ++ fs) s ≡ all_changed fs (all_changed es s)
+changed_append [] fs s = refl
+changed_append (e ∷ es) fs s = changed_append es fs (changed e s)
+
+pub fit_append : (image : Image) (m : Bytes) (es fs : List Effect) → effects_fit image m (es ++ fs) ≡ (effects_fit image m es && effects_fit image m fs)
+fit_append image m [] fs = refl
+fit_append image m (e ∷ es) fs = ap (λ b. effect_fits image m e && b) (fit_append image m es fs) ∙ sym (and_assoc (effect_fits image m e) (effects_fit image m es) (effects_fit image m fs))
+
+-- a byte after others were stored
+pub over_byte : (m : Bytes) (to a b : ℕ) (bytes : List ℕ) → m a ≡ Some b → overwritten m to bytes a ≡ Some (byte_over to bytes a b)
+over_byte m to a b [] is = is
+over_byte m to a b (new ∷ rest) is = go (to == a) (over_byte m (to + 1) a b rest is)
+  where
+    go : (t : Bool) → overwritten m (to + 1) rest a ≡ Some (byte_over (to + 1) rest a b)
+        → cond t (Some (new % 256)) (overwritten m (to + 1) rest a) ≡ Some (cond t (new % 256) (byte_over (to + 1) rest a b))
+    go true e = refl
+    go false e = e

@@ -11,3 +11,4 @@ pub mod TableLemmas
 pub mod TableRowLemmas
 pub mod ShiftTableLemmas
 pub mod RowWithinLemmas
+pub mod ActLaws

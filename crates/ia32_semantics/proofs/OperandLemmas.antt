@@ -1,5 +1,5 @@
 -- The registers and flags that operands and flags ask for, and those that storing into them changes, are in the tables.
-use Rattle.std.proofs.Common.{◌≡◌, ℕ, zero, suc, ◌+◌, ◌*◌, List, [], ◌∷◌, ◌++◌, refl, sym, ◌∙◌, eq-eqb}
+use Rattle.std.proofs.Common.{◌≡◌, ℕ, zero, suc, ◌+◌, ◌*◌, List, [], ◌∷◌, ◌++◌, refl, sym, ◌∙◌, eq-eqb, ◌<◌, ◌^◌, arith}
 use Rattle.std.specs.Prelude.{Bool, true, false, ◌==◌, Option, Some, None, option_to_list}
 use Rattle.std.proofs.lemmas.Bool.{false≢true, or_right, or_left}
 use Rattle.std.proofs.lemmas.List.Folds.{list_any-append}
@@ -10,11 +10,11 @@ use Rattle.ia32_types.specs.declared.Width.TheVariants.{B8, W16, D32}
 use Rattle.ia32_types.specs.declared.Mem.{Mem}
 use Rattle.ia32_types.specs.declared.Operand.{Operand}
 use Rattle.ia32_types.specs.declared.Operand.TheVariants as operand
-use Rattle.ia32_types.specs.Numbers.{reg_number}
+use Rattle.ia32_types.specs.Numbers.{reg_number, size}
 use Rattle.ia32_types.specs.Places as places
 use Rattle.ia32_semantics.specs.State.{State, Location, InRegister, InFlag, AtByte}
 use Rattle.ia32_semantics.specs.Reading.{gives, register}
-use Rattle.ia32_semantics.specs.Operands.{size, low_part, whole_register, flag_value, any_word, stored_number, register_or_zero, address, memory_value, value, value_of, address_of}
+use Rattle.ia32_semantics.specs.Operands.{low_part, whole_register, flag_value, any_word, stored_number, register_or_zero, address, memory_value, value, value_of, address_of, bits}
 use Rattle.ia32_semantics.specs.Laws.{has_register, has_flag}
 use Rattle.ia32_semantics.proofs.EffectLemmas.{or_true}
 use Rattle.ia32_semantics.proofs.WithinLemmas.{Within, within_gives, within_faults, within_bind, within_register, within_flag, within_byte, within_choice}
@@ -121,3 +121,10 @@ module _ (s : State) (regs : List Reg) (flags : List Flag) where
   address_of_within (Some (operand.High r)) all = within_faults s R Anything
   address_of_within (Some (operand.Imm n)) all = within_faults s R Anything
   address_of_within (Some (operand.Mem m)) all = address_within m all
+
+-- -- Numbers of a width
+
+pub byte_fits : (width : Width) (n : ℕ) → n < 256 → n < 2 ^ bits width
+byte_fits B8 n fits = fits
+byte_fits W16 n fits = omega arith
+byte_fits D32 n fits = omega arith

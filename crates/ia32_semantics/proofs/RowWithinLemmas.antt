@@ -19,7 +19,8 @@ use Rattle.ia32_semantics.specs.Machine.{Occurrence}
 use Rattle.ia32_semantics.specs.Reading.{Reading, gives, asks, outcome}
 use Rattle.ia32_semantics.specs.Effects.{effects_take}
 use Rattle.ia32_semantics.specs.Outcome.{Outcome}
-use Rattle.ia32_semantics.specs.Operands.{bits, size, flag_effects}
+use Rattle.ia32_types.specs.Numbers.{size}
+use Rattle.ia32_semantics.specs.Operands.{bits, flag_effects}
 use Rattle.ia32_semantics.specs.Strings.{movs_effects, stos_effects}
 use Rattle.ia32_semantics.specs.Product.{extended}
 use Rattle.ia32_semantics.specs.Rows.{carry_in, row, imul}

@@ -124,7 +124,7 @@ steps_stay_sized image o st sized =
 
 -- -- The layout of memory
 
-slot_stays : (image : Image) (o : Occurrence Act) → Step image o → o.after.slot ≡ o.before.slot
+pub slot_stays : (image : Image) (o : Occurrence Act) → Step image o → o.after.slot ≡ o.before.slot
 slot_stays image o st = ap (λ (s : State). s.slot) st.after ∙ same_slot st.done.effects o.before
 
 blocks_after : (image : Image) (o : Occurrence Act) (st : Step image o)

@@ -31,7 +31,7 @@ use Rattle.ia32_semantics.proofs.TableLemmas.{Meets, exactly, FlagsOf, stored_an
 
 -- -- All five flags
 
-closed : (a b c d e : Bool) → (a || (b || (c || (d || e)))) ≡ (a || (b || (c || (d || (e || false)))))
+pub closed : (a b c d e : Bool) → (a || (b || (c || (d || e)))) ≡ (a || (b || (c || (d || (e || false)))))
 closed a b c d e = ap (λ v. a || (b || (c || (d || v)))) (sym (or-false e))
 
 -- where each of the five is drawn or set

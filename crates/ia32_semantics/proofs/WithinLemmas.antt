@@ -31,7 +31,7 @@ asked_next : {A : Type 0} (Q : A → Type 0) (done : Option (A × List ℕ)) (ne
 asked_next Q None next each e = absurd (false≢true e)
 asked_next Q (Some done) next each e = each done.0 done.1 refl e
 
-given_next : {A B : Type 0} (done : Option (A × List ℕ)) (next : A → List ℕ → Option (B × List ℕ)) (y : B) (rest : List ℕ) {P : Type 0}
+pub given_next : {A B : Type 0} (done : Option (A × List ℕ)) (next : A → List ℕ → Option (B × List ℕ)) (y : B) (rest : List ℕ) {P : Type 0}
     → ((x : A) (left : List ℕ) → done ≡ Some (x, left) → next x left ≡ Some (y, rest) → P)
     → then_outcome done next ≡ Some (y, rest) → P
 given_next None next y rest each e = absurd (none-some _ e)

@@ -8,7 +8,7 @@ use Rattle.ia32_types.specs.declared.Width.TheVariants.{B8, W16, D32}
 use Rattle.ia32_types.specs.declared.Mem.{Mem}
 use Rattle.ia32_types.specs.declared.Operand.{Operand}
 use Rattle.ia32_types.specs.declared.Operand.TheVariants as operand
-use Rattle.ia32_types.specs.Numbers.{reg_number, is_same_reg}
+use Rattle.ia32_types.specs.Numbers.{reg_number, is_same_reg, size}
 use Rattle.ia32_semantics.specs.declared.flags.Flags.{Flags}
 use Rattle.ia32_semantics.specs.declared.flags.FlagsOut.{FlagsOut}
 use Rattle.ia32_semantics.specs.declared.flags.FlagOut.{FlagOut}
@@ -19,16 +19,11 @@ use Rattle.ia32_semantics.specs.Effects.{Effect, Part, Whole, Word, Low, High, s
 
 -- -- Widths and numbers
 
--- the bits of a width, and its bytes
+-- the bits of a width
 abbrev pub bits : Width → ℕ
 bits B8 = 8
 bits W16 = 16
 bits D32 = 32
-
-abbrev pub size : Width → ℕ
-size B8 = 1
-size W16 = 2
-size D32 = 4
 
 -- the low part of a word, as wide as told
 abbrev pub low_part : Width → ℕ → ℕ

@@ -18,7 +18,8 @@ use Rattle.ia32_semantics.specs.Division.{division, division_flags}
 use Rattle.ia32_semantics.specs.Reading.{Reading, gives, faults, ◌>>=◌}
 use Rattle.ia32_semantics.specs.Effects.{Effect, Whole, Word, Low, High, sets, turns, stores}
 use Rattle.ia32_semantics.specs.Outcome.{Outcome, enters, leaves, going}
-use Rattle.ia32_semantics.specs.Operands.{bits, size, low_part, number_bytes, whole_register, flag_value, stored_word, value_of, address_of, store_to, raised, any_flags, flag_effects, condition}
+use Rattle.ia32_types.specs.Numbers.{size}
+use Rattle.ia32_semantics.specs.Operands.{bits, low_part, number_bytes, whole_register, flag_value, stored_word, value_of, address_of, store_to, raised, any_flags, flag_effects, condition}
 use Rattle.ia32_semantics.specs.Strings.{string_effects, movs_effects, stos_effects}
 
 abbrev pub next_place : Instr → ℕ

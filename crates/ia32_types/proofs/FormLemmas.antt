@@ -13,7 +13,8 @@ use Rattle.ia32_types.specs.declared.forms.Size.TheVariants as size
 use Rattle.ia32_types.specs.declared.forms.Slot.TheVariants as slot
 use Rattle.ia32_types.specs.declared.forms.Count.{Count}
 use Rattle.ia32_types.specs.declared.forms.Count.TheVariants as count
-use Rattle.ia32_types.specs.Forms.{plain, unary, binary, ternary, width_of, width_bytes, width_limit, reg_mem, reg_operand, reg_field, is_gs, is_dword, at_address, writes_first}
+use Rattle.ia32_types.specs.Numbers.{size as width_size}
+use Rattle.ia32_types.specs.Forms.{plain, unary, binary, ternary, width_of, width_limit, reg_mem, reg_operand, reg_field, is_gs, is_dword, at_address, writes_first}
 use Rattle.ia32_types.specs.Rows.{count_slot}
 use Rattle.ia32_types.specs.Spells.{is_read_only}
 use Rattle.ia32_types.specs.Operands.{IsPlace, IsWide, Shape, pair, exchanged, loaded, pushed, popped, changed, factor, product, shifted, extended, tested, chosen, branched, returned, idle, alone, string, shape_of, Fits, HasOperands}
@@ -24,7 +25,7 @@ by_shape : (o : Op) (h : Shape) → shape_of o ≡ h → (width : Width) (dst sr
 by_shape o h e width dst src imm fits = subst (λ v. Fits v width dst src imm) (sym e) fits
 
 -- the number of an immediate that stands alone at the end
-imm_below : (width : Width) (n : ℕ) → n < number_limit ((0 + width_bytes width) + 0) → n < width_limit width
+imm_below : (width : Width) (n : ℕ) → n < number_limit ((0 + width_size width) + 0) → n < width_limit width
 imm_below B8 n lt = lt
 imm_below W16 n lt = lt
 imm_below D32 n lt = lt
@@ -229,7 +230,7 @@ module _ (o : Op) where
         third_below width number h.below,
       )
     where
-      third_below : (width : Width) (n : ℕ) → n < number_limit ((0 + 0) + width_bytes width) → n < width_limit width
+      third_below : (width : Width) (n : ℕ) → n < number_limit ((0 + 0) + width_size width) → n < width_limit width
       third_below B8 n lt = lt
       third_below W16 n lt = lt
       third_below D32 n lt = lt

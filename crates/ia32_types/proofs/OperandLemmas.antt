@@ -13,8 +13,8 @@ use Rattle.ia32_types.specs.declared.forms.Segment.{Segment}
 use Rattle.ia32_types.specs.declared.forms.Segment.TheVariants as segment
 use Rattle.ia32_types.specs.declared.forms.Prefixes.{Prefixes}
 use Rattle.ia32_types.specs.declared.forms.Parts.{Parts}
-use Rattle.ia32_types.specs.Numbers.{reg_number, reg_of}
-use Rattle.ia32_types.specs.Forms.{width_bytes, width_limit, reg_operand, reg_mem, sign_extended, rm_field, reg_field, is_gs, at_address, is_memory, operand_of, third_of, parts_width}
+use Rattle.ia32_types.specs.Numbers.{reg_number, reg_of, size as width_size}
+use Rattle.ia32_types.specs.Forms.{width_limit, reg_operand, reg_mem, sign_extended, rm_field, reg_field, is_gs, at_address, is_memory, operand_of, third_of, parts_width}
 use Rattle.ia32_types.specs.Spells.{end_bytes, is_read_only, is_refused, refuses_memory}
 use Rattle.ia32_types.specs.Operands.{IsAddress, IsRegister, IsPlace, IsTarget, IsValue, is_in_memory, HasOneAddress, IsFirst, HasOperands}
 use Rattle.ia32_types.proofs.NumberLemmas.{number_of_reg}
@@ -124,7 +124,7 @@ extended_below B8 n lt = cond_both (nat_lt n 128) _ _ (λ v. v < 256) (λ _. lt)
 extended_below W16 n lt = cond_both (nat_lt n 128) _ _ (λ v. v < 65536) (λ _. omega arith) (λ _. omega arith)
 extended_below D32 n lt = cond_both (nat_lt n 128) _ _ (λ v. v < 4294967296) (λ _. omega arith) (λ _. omega arith)
 
-limit_of_width : (width : Width) → number_limit (width_bytes width) ≡ width_limit width
+limit_of_width : (width : Width) → number_limit (width_size width) ≡ width_limit width
 limit_of_width B8 = refl
 limit_of_width W16 = refl
 limit_of_width D32 = refl

@@ -1,10 +1,11 @@
 -- Laws of sets of registers and flags as bits.
 
-use Rattle.std.proofs.Common.{◌≡◌, ℕ, zero, suc, ◌*◌, ◌<◌, ◌==◌, Bool, false, ◌||◌, max, List, [], ◌∷◌, ◌++◌, refl, sym, ◌∙◌, ap, arith, lit<}
+use Rattle.std.proofs.Common.{◌≡◌, ℕ, zero, suc, ◌*◌, ◌<◌, ◌==◌, Bool, true, false, not, ◌||◌, ◌&&◌, max, min, List, [], ◌∷◌, ◌++◌, refl, sym, ◌∙◌, ap, arith, lit<}
 use Rattle.std.specs.Int.{bit_at}
 use Rattle.std.specs.Int.RustNames.{bit_and, bit_or}
 use Rattle.std.proofs.lemmas.Bool.{eq-eqb, ne_eqb}
-use Rattle.std.proofs.lemmas.Nat.Bits.{bit_at_or, bit_at-lt, and_pow, same_from_bits}
+use Rattle.std.proofs.Math.Bool.{or-false}
+use Rattle.std.proofs.lemmas.Nat.Bits.{bit_at_or, bit_at_and, bit_at-lt, and_pow, same_from_bits}
 use Rattle.std.specs.Int.Bits.{or_zero_l, or_zero_r}
 use Rattle.ia32_types.specs.declared.Reg.{Reg}
 use Rattle.ia32_types.specs.declared.Reg.TheVariants.{Eax, Ecx, Edx, Ebx, Esp, Ebp, Esi, Edi}
@@ -13,7 +14,7 @@ use Rattle.ia32_types.specs.declared.Flag.TheVariants.{Cf, Pf, Zf, Sf, Of, Df}
 use Rattle.ia32_types.specs.Numbers.{reg_number, flag_number, is_same_reg, is_same_flag}
 use Rattle.ia32_types.specs.declared.sets.RegSet.{RegSet}
 use Rattle.ia32_types.specs.declared.sets.FlagSet.{FlagSet}
-use Rattle.ia32_types.specs.Sets.{reg_bit, flag_bit, is_listed_reg, is_listed_flag, HasRegs, HasFlags}
+use Rattle.ia32_types.specs.Sets.{reg_bit, flag_bit, has_reg, has_flag, flags_of_both, flag_if, flag_set, reg_numbers, flag_numbers, has_number, is_listed_reg, is_listed_flag, HasRegs, HasFlags}
 use Rattle.ia32_types.specs.Places.{reg_bits, flag_bits}
 use Rattle.ia32_types.proofs.NumberLemmas.{each_reg, each_flag}
 
@@ -138,3 +139,72 @@ has_regs s regs is r = ap (λ n. has_bit n (reg_bit r)) is ∙ has_listed_regs r
 
 pub has_flags : (s : FlagSet) (flags : List Flag) → s.0 ≡ flag_bits flags → HasFlags s flags
 has_flags s flags is f = ap (λ n. has_bit n (flag_bit f)) is ∙ has_listed_flags flags f
+
+-- -- Sets of fixed members
+
+pub no_reg_has : (r : Reg) → has_bit 0 (reg_bit r) ≡ false
+unfolding reg_bits
+no_reg_has = has_listed_regs []
+
+pub no_flag_has : (f : Flag) → has_bit 0 (flag_bit f) ≡ false
+unfolding flag_bits
+no_flag_has = has_listed_flags []
+
+pub all_flags_have : (f : Flag) → has_bit 63 (flag_bit f) ≡ true
+all_flags_have = each_flag (λ f. has_bit 63 (flag_bit f) ≡ true) refl refl refl refl refl refl
+
+pub five_flags_have : (f : Flag) → has_bit 31 (flag_bit f) ≡ not (is_same_flag f Df)
+five_flags_have = each_flag (λ f. has_bit 31 (flag_bit f) ≡ not (is_same_flag f Df)) refl refl refl refl refl refl
+
+and_true : (b : Bool) → b ≡ (b && true)
+and_true true = refl
+and_true false = refl
+
+and_false : (b : Bool) → false ≡ (b && false)
+and_false true = refl
+and_false false = refl
+
+pub flag_asked_for : (s : FlagSet) (has : Bool) (f : Flag) → s ≡ flag_if has f → (x : Flag) → has_flag s x ≡ (is_same_flag x f && has)
+flag_asked_for s true f is x = ap (λ t. has_flag t x) is ∙ has_flag_alone f x ∙ and_true (is_same_flag x f)
+flag_asked_for s false f is x = ap (λ t. has_flag t x) is ∙ no_flag_has x ∙ and_false (is_same_flag x f)
+
+min_one : (x y : ℕ) → x < 2 → y < 2 → (min x y == 1) ≡ ((x == 1) && (y == 1))
+min_one zero zero p q = refl
+min_one zero (suc zero) p q = refl
+min_one zero (suc (suc y)) p q = absurd (omega arith)
+min_one (suc zero) zero p q = refl
+min_one (suc zero) (suc zero) p q = refl
+min_one (suc zero) (suc (suc y)) p q = absurd (omega arith)
+min_one (suc (suc x)) y p q = absurd (omega arith)
+
+each_bit : (a b k : ℕ) → (bit_at (bit_and a b) k == 1) ≡ ((bit_at a k == 1) && (bit_at b k == 1))
+each_bit a b k = ap (λ x. x == 1) (bit_at_and a b k) ∙ min_one (bit_at a k) (bit_at b k) (bit_at-lt a k) (bit_at-lt b k)
+
+-- what is in both sets
+pub has_flag_of_each : (a b : ℕ) (f : Flag) → has_bit (bit_and a b) (flag_bit f) ≡ (has_bit a (flag_bit f) && has_bit b (flag_bit f))
+has_flag_of_each a b f = flag_test f (bit_and a b) ∙ each_bit a b (flag_number f) ∙ sym (λ i. flag_test f a i && flag_test f b i)
+
+-- -- By number
+
+pub reg_by_number : (s : RegSet) (r : Reg) → has_number (reg_numbers s) (reg_number r) ≡ has_reg s r
+reg_by_number s = each_reg (λ r. has_number (reg_numbers s) (reg_number r) ≡ has_reg s r) refl refl refl refl refl refl refl refl
+
+pub flag_by_number : (s : FlagSet) (f : Flag) → has_number (flag_numbers s) (flag_number f) ≡ has_flag s f
+flag_by_number s = each_flag (λ f. has_number (flag_numbers s) (flag_number f) ≡ has_flag s f) refl refl refl refl refl refl
+
+-- -- The flags that pass a test
+
+has_asked : (t : Bool) (g x : Flag) → has_flag (flag_if t g) x ≡ (is_same_flag x g && t)
+has_asked t g x = flag_asked_for (flag_if t g) t g refl x
+
+has_more : (t : Bool) (g x : Flag) (rest : FlagSet) (r : Bool) → has_flag rest x ≡ r → has_flag (flags_of_both (flag_if t g) rest) x ≡ ((is_same_flag x g && t) || r)
+has_more t g x rest r is = has_flag_of_both (flag_if t g).0 rest.0 x ∙ (λ i. has_asked t g x i || is i)
+
+-- a flag is in the set where it passes the test
+pub flag_set_has : (has : Flag → Bool) (x : Flag) → has_flag (flag_set has) x ≡ has x
+unfolding flag_set
+flag_set_has has x =
+    has_more (has Cf) Cf x _ _ (has_more (has Pf) Pf x _ _ (has_more (has Zf) Zf x _ _ (has_more (has Sf) Sf x _ _ (has_more (has Of) Of x _ _ (has_asked (has Df) Df x)))))
+    ∙ each_flag
+    (λ x. ((is_same_flag x Cf && has Cf) || ((is_same_flag x Pf && has Pf) || ((is_same_flag x Zf && has Zf) || ((is_same_flag x Sf && has Sf) || ((is_same_flag x Of && has Of) || (is_same_flag x Df && has Df)))))) ≡ has x)
+    (or-false (has Cf)) (or-false (has Pf)) (or-false (has Zf)) (or-false (has Sf)) (or-false (has Of)) refl x

@@ -18,7 +18,7 @@ use Rattle.ia32_types.specs.declared.forms.Form.{Form}
 use Rattle.ia32_types.specs.declared.forms.Segment.{Segment}
 use Rattle.ia32_types.specs.declared.forms.Segment.TheVariants as segment
 use Rattle.ia32_types.specs.declared.forms.Parts.{Parts}
-use Rattle.ia32_types.specs.Numbers.{reg_of}
+use Rattle.ia32_types.specs.Numbers.{reg_of, size as width_size}
 
 -- forms of no to three operands
 abbrev pub plain : Op → Size → Form
@@ -40,12 +40,6 @@ width_of size.Full true = W16
 width_of size.Full false = D32
 width_of size.Dword operand16 = D32
 width_of size.Any operand16 = D32
-
--- the bytes of an immediate of this width
-abbrev pub width_bytes : Width → ℕ
-width_bytes B8 = 1
-width_bytes W16 = 2
-width_bytes D32 = 4
 
 -- 2 to the width
 abbrev pub width_limit : Width → ℕ
@@ -92,7 +86,7 @@ slot_bytes width slot.Reg = 0
 slot_bytes width (slot.Fixed n) = 0
 slot_bytes width slot.Cl = 0
 slot_bytes width slot.One = 0
-slot_bytes width slot.Imm = width_bytes width
+slot_bytes width slot.Imm = width_size width
 slot_bytes width slot.Imm8 = 1
 slot_bytes width slot.SignedImm8 = 1
 slot_bytes width slot.Imm16 = 2

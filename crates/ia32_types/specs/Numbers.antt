@@ -1,10 +1,18 @@
--- Numbers of the general registers (SDM volume 2, 2.1.5) and of the flags. The order of the flags is the project's own.
+-- Numbers of the general registers (SDM volume 2, 2.1.5) and of the flags, and the bytes of a width. The order of the flags is the project's own.
 
 use Rattle.std.specs.Prelude.{ℕ, ◌==◌, Bool, if◌then◌else◌}
 use Rattle.ia32_types.specs.declared.Reg.{Reg}
 use Rattle.ia32_types.specs.declared.Reg.TheVariants.{Eax, Ecx, Edx, Ebx, Esp, Ebp, Esi, Edi}
 use Rattle.ia32_types.specs.declared.Flag.{Flag}
 use Rattle.ia32_types.specs.declared.Flag.TheVariants.{Cf, Pf, Zf, Sf, Of, Df}
+use Rattle.ia32_types.specs.declared.Width.{Width}
+use Rattle.ia32_types.specs.declared.Width.TheVariants.{B8, W16, D32}
+
+-- how many bytes a width has
+abbrev pub size : Width → ℕ
+size B8 = 1
+size W16 = 2
+size D32 = 4
 
 -- the number of a register, below 8
 abbrev pub reg_number : Reg → ℕ

@@ -5,6 +5,9 @@ ghost use Rattle.ia32_types.specs.declared.Reg.{Reg};
 ghost use Rattle.ia32_types.specs.declared.Flag.{Flag};
 ghost use Rattle.ia32_types.specs.declared.Instr.{Instr};
 ghost use Rattle.ia32_types.specs.Numbers.{reg_number, reg_of, flag_number, flag_of};
+ghost use Rattle.ia32_types.specs.declared.sets.RegSet.{RegSet};
+ghost use Rattle.ia32_types.specs.declared.sets.FlagSet.{FlagSet};
+ghost use Rattle.ia32_types.specs.Sets.{has_reg, has_flag, has_number, reg_numbers, flag_numbers};
 ghost use Rattle.ia32_types.specs.Operands.{IsInstruction};
 ghost use Rattle.ia32_types.specs.Spells.{Spells};
 
@@ -28,4 +31,11 @@ pub fn one_number()
     ensures number_of_reg { (n : ℕ) → n < 8 → reg_number (reg_of n) ≡ n }
     ensures flag { (f : Flag) → (flag_number f < 6) × (flag_of (flag_number f) ≡ f) }
     ensures number_of_flag { (n : ℕ) → n < 6 → flag_number (flag_of n) ≡ n }
+{}
+
+/// The numbers of a set are those of its members.
+#[tactic(auto, using(crate::proofs::SetLemmas::reg_by_number, crate::proofs::SetLemmas::flag_by_number))]
+pub fn numbered_members()
+    ensures reg { (s : RegSet) (r : Reg) → has_number (reg_numbers s) (reg_number r) ≡ has_reg s r }
+    ensures flag { (s : FlagSet) (f : Flag) → has_number (flag_numbers s) (flag_number f) ≡ has_flag s f }
 {}

@@ -2,8 +2,8 @@
 //! registers and flags they read and write.
 #![tactic(auto)]
 
-ghost use Rattle.std.specs.Prelude.{ℕ, ◌≡◌, ◌<◌};
-ghost use Rattle.ia32_types.specs.Numbers.{reg_number, reg_of, flag_number, flag_of};
+ghost use Rattle.std.specs.Prelude.{ℕ, ◌≡◌, ◌<◌, ◌≤◌};
+ghost use Rattle.ia32_types.specs.Numbers.{reg_number, reg_of, flag_number, flag_of, size};
 
 use std::marker::Model;
 
@@ -14,9 +14,9 @@ mod sets;
 #[cfg(test)]
 mod tests;
 
-pub use laws::{one_number, one_spelling, spelled_instruction};
+pub use laws::{numbered_members, one_number, one_spelling, spelled_instruction};
 pub use places::{flag_reads, flag_writes, reg_reads, reg_writes};
-pub use sets::{FlagSet, RegSet};
+pub use sets::{FlagSet, NumberSet, RegSet};
 
 /// A general register, in the order of its number in an encoding.
 #[derive(Clone, Copy, Debug, PartialEq, Eq)]
@@ -128,6 +128,21 @@ pub enum Width {
     B8,
     W16,
     D32,
+}
+
+impl Width {
+    /// How many bytes it has.
+    pub fn bytes(self) -> u32
+        ensures value { result ≡ size self }
+        ensures least { 1 ≤ result }
+        ensures few { result ≤ 4 }
+    {
+        match self {
+            Width::B8 => 1,
+            Width::W16 => 2,
+            Width::D32 => 4,
+        }
+    }
 }
 
 /// A condition by its number in an encoding, below 16: o, no, b, ae, e, ne, be, a, s, ns, p, np, l,

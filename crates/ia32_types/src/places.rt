@@ -178,7 +178,6 @@ fn three_regs(a: Reg, b: Reg, c: Reg) -> RegSet
 /// a count other than 0.
 #[tactic(auto, using(crate::proofs::SetLemmas::has_regs))]
 pub fn reg_reads(i: &Instr) -> RegSet
-    ensures bits { result.0 ≡ reg_bits (registers_read i.now) }
     ensures members { HasRegs result (registers_read i.now) }
 {
     read_regs(i)
@@ -218,7 +217,6 @@ fn read_regs(i: &Instr) -> RegSet
 /// count other than 0.
 #[tactic(auto, using(crate::proofs::SetLemmas::has_regs))]
 pub fn reg_writes(i: &Instr) -> RegSet
-    ensures bits { result.0 ≡ reg_bits (registers_written i.now) }
     ensures members { HasRegs result (registers_written i.now) }
 {
     written_regs(i)
@@ -300,7 +298,6 @@ fn is_by_zero(count: &Option<Operand>) -> bool
 /// string instruction.
 #[tactic(auto, using(crate::proofs::SetLemmas::has_flags))]
 pub fn flag_reads(i: &Instr) -> FlagSet
-    ensures bits { result.0 ≡ flag_bits (flags_read i.now) }
     ensures members { HasFlags result (flags_read i.now) }
 {
     read_flags(i)
@@ -323,7 +320,6 @@ fn read_flags(i: &Instr) -> FlagSet
 /// The flags that an instruction may write, also those that it leaves undefined.
 #[tactic(auto, using(crate::proofs::SetLemmas::has_flags))]
 pub fn flag_writes(i: &Instr) -> FlagSet
-    ensures bits { result.0 ≡ flag_bits (flags_written i.now) }
     ensures members { HasFlags result (flags_written i.now) }
 {
     written_flags(i)

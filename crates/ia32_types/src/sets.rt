@@ -1,18 +1,19 @@
 //! Sets of registers and of flags, as bits.
 
-ghost use Rattle.std.specs.Prelude.{⊤, ◌≡◌, ◌||◌, [], ◌∷◌, codes};
+ghost use Rattle.std.specs.Prelude.{⊤, ◌≡◌, ◌<◌, ◌&&◌, ◌||◌, not, true, false, [], ◌∷◌, codes};
 ghost use Rattle.std.specs.Int.RustNames.{bit_or};
 ghost use Rattle.ia32_types.specs.declared.Reg.{Reg};
 ghost use Rattle.ia32_types.specs.declared.Flag.{Flag};
+ghost use Rattle.ia32_types.specs.declared.Flag.TheVariants.{Df};
 ghost use Rattle.ia32_types.specs.Numbers.{is_same_reg, is_same_flag};
-ghost use Rattle.ia32_types.specs.Sets.{reg_bit, flag_bit, has_reg, has_flag};
+ghost use Rattle.ia32_types.specs.Sets.{has_reg, has_flag, reg_alone, flag_alone, regs_of_both, flags_of_both, flag_if, has_number, reg_numbers, flag_numbers};
 
 use crate::{Flag, Reg};
 use bitflags::{Flag as NamedFlag, Flags, bitflag_items};
 
 /// A set of registers: the register of number n has bit n.
 #[derive(Clone, Copy, Debug, PartialEq, Eq)]
-pub struct RegSet(pub u8);
+pub struct RegSet(pub(crate) u8);
 
 bitflag_items! {
     impl RegSet: u8 {
@@ -49,11 +50,34 @@ impl Flags for RegSet {
     }
 }
 
+/// Which numbers are those of the members of a set.
+#[derive(Clone, Copy)]
+pub struct NumberSet(u8);
+
+impl NumberSet {
+    /// Whether a number is that of a member.
+    pub fn has(self, number: u32) -> bool
+        requires { number < 8 }
+        ensures { result ≡ has_number self number }
+    {
+        let bit = 1 << number;
+        self.0 & bit == bit
+    }
+}
+
 impl RegSet {
+    /// No register.
+    #[tactic(auto, using(crate::proofs::SetLemmas::no_reg_has))]
+    pub fn none() -> RegSet
+        ensures members { (x : Reg) → has_reg result x ≡ false }
+    {
+        RegSet(0)
+    }
+
     /// The set of one register.
     #[tactic(auto, using(crate::proofs::SetLemmas::has_reg_alone))]
     pub fn only(reg: Reg) -> RegSet
-        ensures bits { result.0 ≡ reg_bit reg }
+        ensures alone { result ≡ reg_alone reg }
         ensures members { (x : Reg) → has_reg result x ≡ is_same_reg x reg }
     {
         match reg {
@@ -78,16 +102,23 @@ impl RegSet {
     /// The registers of either set.
     #[tactic(auto, using(crate::proofs::SetLemmas::has_reg_of_both))]
     pub fn with(self, other: RegSet) -> RegSet
-        ensures bits { result.0 ≡ bit_or self.0 other.0 }
+        ensures both { result ≡ regs_of_both self other }
         ensures members { (x : Reg) → has_reg result x ≡ (has_reg self x || has_reg other x) }
     {
         self.union(other)
+    }
+
+    /// The numbers of the registers in the set.
+    pub fn numbers(self) -> NumberSet
+        ensures { result ≡ reg_numbers self }
+    {
+        NumberSet(self.0)
     }
 }
 
 /// A set of flags: bits 0 to 5 are CF, PF, ZF, SF, OF and DF.
 #[derive(Clone, Copy, Debug, PartialEq, Eq)]
-pub struct FlagSet(pub u8);
+pub struct FlagSet(pub(crate) u8);
 
 bitflag_items! {
     impl FlagSet: u8 {
@@ -123,10 +154,43 @@ impl Flags for FlagSet {
 }
 
 impl FlagSet {
+    /// No flag.
+    #[tactic(auto, using(crate::proofs::SetLemmas::no_flag_has))]
+    pub fn none() -> FlagSet
+        ensures members { (x : Flag) → has_flag result x ≡ false }
+    {
+        FlagSet(0)
+    }
+
+    /// All six.
+    #[tactic(auto, using(crate::proofs::SetLemmas::all_flags_have))]
+    pub fn all() -> FlagSet
+        ensures members { (x : Flag) → has_flag result x ≡ true }
+    {
+        FlagSet(63)
+    }
+
+    /// The five that arithmetic writes: all but DF.
+    #[tactic(auto, using(crate::proofs::SetLemmas::five_flags_have))]
+    pub fn arithmetic() -> FlagSet
+        ensures members { (x : Flag) → has_flag result x ≡ not (is_same_flag x Df) }
+    {
+        FlagSet(31)
+    }
+
+    /// A flag where it is asked for, else none.
+    #[tactic(auto, using(crate::proofs::SetLemmas::flag_asked_for))]
+    pub fn only_if(has: bool, flag: Flag) -> FlagSet
+        ensures set { result ≡ flag_if has flag }
+        ensures members { (x : Flag) → has_flag result x ≡ (is_same_flag x flag && has) }
+    {
+        if has { FlagSet::only(flag) } else { FlagSet(0) }
+    }
+
     /// The set of one flag.
     #[tactic(auto, using(crate::proofs::SetLemmas::has_flag_alone))]
     pub fn only(flag: Flag) -> FlagSet
-        ensures bits { result.0 ≡ flag_bit flag }
+        ensures alone { result ≡ flag_alone flag }
         ensures members { (x : Flag) → has_flag result x ≡ is_same_flag x flag }
     {
         match flag {
@@ -149,9 +213,24 @@ impl FlagSet {
     /// The flags of either set.
     #[tactic(auto, using(crate::proofs::SetLemmas::has_flag_of_both))]
     pub fn with(self, other: FlagSet) -> FlagSet
-        ensures bits { result.0 ≡ bit_or self.0 other.0 }
+        ensures both { result ≡ flags_of_both self other }
         ensures members { (x : Flag) → has_flag result x ≡ (has_flag self x || has_flag other x) }
     {
         self.union(other)
+    }
+
+    /// The flags that are in both sets.
+    #[tactic(auto, using(crate::proofs::SetLemmas::has_flag_of_each))]
+    pub fn within(self, other: FlagSet) -> FlagSet
+        ensures members { (x : Flag) → has_flag result x ≡ (has_flag self x && has_flag other x) }
+    {
+        FlagSet(self.0 & other.0)
+    }
+
+    /// The numbers of the flags in the set.
+    pub fn numbers(self) -> NumberSet
+        ensures { result ≡ flag_numbers self }
+    {
+        NumberSet(self.0)
     }
 }

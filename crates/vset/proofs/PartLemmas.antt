@@ -82,6 +82,3 @@ pub any_later : {A : Type 0} (t : A → Bool) (xs : List A) (i : ℕ) (x : A) (w
 any_later t xs i x whole lt is fails e =
     let here : t (get_or xs i x) ≡ false = ap t (sym is) ∙ fails in
     ap (λ b. b || list_any t (drop (i + 1) xs)) (sym here) ∙ ap (list_any t) (sym (drop_more xs i x lt)) ∙ e
-
-pub any_none : {A : Type 0} (t : A → Bool) (xs : List A) (i : ℕ) (whole : Bool) → length xs ≤ i → list_any t (drop i xs) ≡ whole → false ≡ whole
-any_none t xs i whole h e = ap (list_any t) (sym (drop_all i xs h)) ∙ e

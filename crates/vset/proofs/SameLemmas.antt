@@ -21,7 +21,7 @@ same_interval-equal a b e =
     let hi : a.hi ≡ b.hi = (signed_Decides a.hi b.hi).0 outer.1 in
     λ i. record { stride = stride i; lo = lo i; hi = hi i }
 
-same_interval-itself : (a : Interval) → same_interval a a ≡ true
+pub same_interval-itself : (a : Interval) → same_interval a a ≡ true
 same_interval-itself a = and_from _ _ (and_from _ _ (eq-eqb a.stride a.stride refl) ((signed_Decides a.lo a.lo).1 refl)) ((signed_Decides a.hi a.hi).1 refl)
 
 pub same_part-equal : (x y : Part) → same_part x y ≡ true → x ≡ y

@@ -57,13 +57,15 @@ fn are_below(ys: &[Part], xs: &[Part]) -> bool
     xs.iter().all(|x| is_part_below(ys, x))
 }
 
-fn is_same_interval(a: &Si, b: &Si) -> bool
+/// Whether two intervals are the same.
+pub fn is_same_interval(a: &Si, b: &Si) -> bool
     ensures { result ≡ same_interval_spec a.now b.now }
 {
     a.stride() == b.stride() && is_same(a.lo(), b.lo()) && is_same(a.hi(), b.hi())
 }
 
-fn is_same_part(x: &Part, y: &Part) -> bool
+/// Whether two parts are the same: the same offsets of the same region.
+pub fn is_same_part(x: &Part, y: &Part) -> bool
     ensures { result ≡ same_part_spec x.now y.now }
 {
     x.region == y.region && is_same_interval(&x.si, &y.si)

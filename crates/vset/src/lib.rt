@@ -11,5 +11,6 @@ mod tests;
 mod value;
 
 pub use facts::{AbsFlags, CmpFact, CmpPlace};
+pub use joins::{is_same_interval, is_same_part};
 pub use part::{Both, Part};
 pub use value::ValueSet;

@@ -2,8 +2,9 @@ use Rattle.std.proofs.Common.{sym, ◌∙◌}
 use Rattle.std.specs.List.{list_any}
 use Rattle.vset.specs.declared.part.Part.{Part}
 use Rattle.vset.specs.Values.{is_full}
-use Rattle.vset.proofs.PartLemmas.{canonical_more, canonical_all, any_here, any_later, any_none}
+use Rattle.vset.proofs.PartLemmas.{canonical_more, canonical_all, any_here, any_later}
 use Rattle.vset.proofs.value.has_full.Goals as goal
+use Rattle.item_list.proofs.ListLaws.{any_none}
 
 pub loop-p-preserved : goal.loop-p-preserved
 loop-p-preserved c = record {
