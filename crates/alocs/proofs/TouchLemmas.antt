@@ -27,7 +27,7 @@ pub record IsFirstAfter (low at : ℤ) (cells : List Cell) (c : Cell) : Type 0 w
   pub some : c.start <ℤ c.end
   pub others : (d : Cell) → Contains cells d → Beside at c d
 
-all_above : (low : ℤ) (cells : List Cell) → CellsRise low cells → (d : Cell) → Contains cells d → (low ≤ℤ d.start) × (d.start <ℤ d.end)
+pub all_above : (low : ℤ) (cells : List Cell) → CellsRise low cells → (d : Cell) → Contains cells d → (low ≤ℤ d.start) × (d.start <ℤ d.end)
 all_above low [] r d h = absurd (contains-none d h)
 all_above low (c ∷ cs) r d h =
     ⊎_elim
@@ -98,7 +98,7 @@ end_push : (limit : ℤ) (cells : List Cell) (c : Cell) → EndBy limit cells �
 end_push limit [] c e h = (h, tt)
 end_push limit (x ∷ xs) c e h = (e.0, end_push limit xs c e.1 h)
 
-end_later : (limit later : ℤ) (cells : List Cell) → limit ≤ℤ later → EndBy limit cells → EndBy later cells
+pub end_later : (limit later : ℤ) (cells : List Cell) → limit ≤ℤ later → EndBy limit cells → EndBy later cells
 end_later limit later [] le e = tt
 end_later limit later (x ∷ xs) le e = let p = e.0 in (omega (arith, ints), end_later limit later xs le e.1)
 

@@ -16,7 +16,7 @@ pub struct Extent {
 }
 
 /// The region whose extent and cuts a region has: older activations and blocks have those of the newest.
-pub(crate) fn home(region: RegionId) -> RegionId
+pub fn home(region: RegionId) -> RegionId
     ensures { result ≡ home_spec region }
 {
     match region {

@@ -6,7 +6,7 @@ mod extents;
 mod touching;
 
 pub use cells::{Cells, CutList};
-pub use extents::{Extent, extent_of};
+pub use extents::{Extent, extent_of, home};
 
 #[cfg(test)]
 mod tests;

@@ -1,4 +1,3 @@
 pub mod TakingLemmas
 pub mod ScanLemmas
-pub mod FetchLemmas
 pub mod RiseLemmas

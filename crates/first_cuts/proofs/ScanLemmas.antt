@@ -2,13 +2,13 @@
 use Rattle.std.proofs.Common.{Bool, true, false, cond, map, pos, ◌≡◌, ◌≤◌, ◌<◌, ℕ, zero, suc, ◌+◌, ◌-◌, List, [], ◌∷◌, ◌++◌, Option, Some, None, ℤ, refl, sym, ◌∙◌, ap, arith}
 use Rattle.image_map.specs.declared.image.Image.{Image}
 use Rattle.ia32_types.specs.declared.Instr.{Instr}
-use Rattle.abs_steps.specs.Places.{instruction_at}
-use Rattle.std.specs.Prelude.{nat_le, length, is_some, nat_lt, ◌&&◌, option_to_list}
-use Rattle.std.proofs.lemmas.Bool.{true≢false, and_parts, ltb-true, leb-true}
+use Rattle.ia32_fetch.specs.Fetched.{instruction_at}
+use Rattle.std.specs.Prelude.{nat_le, length, is_some, ◌&&◌, option_to_list}
 use Rattle.image_map.specs.declared.image.Segment.{Segment}
-use Rattle.image_map.specs.Memory.{holds, segment_at, has_flag}
+use Rattle.image_map.specs.Memory.{segment_at, has_flag}
 use Rattle.image_map.specs.Queries.{is_in_segment}
-use Rattle.image_map.specs.Whole.{ArePlaced, IsPlaced}
+use Rattle.image_map.specs.Whole.{ArePlaced}
+use Rattle.image_map.proofs.SegmentLaws.{segments_below}
 use Rattle.first_cuts.specs.FirstCuts.{with_taken}
 use Rattle.first_cuts.specs.Constants.{addresses, displacement, has_constant, immediate, immediates, is_dword, scanned_segment, constants_in, constants_of, passed_with, scanned}
 use Rattle.first_cuts.specs.Taking.{taken_from}
@@ -78,24 +78,8 @@ scan_full image start count passed out view whole full seen e =
 
 -- -- One number
 
-held_below : (s : Segment) (a : ℕ) → IsPlaced s → holds a s ≡ true → a < 0x7FFFFFFF
-held_below s a placed h =
-    let both = and_parts (nat_le s.start a) (nat_lt (a - s.start) (length s.bytes)) h in
-    let low = leb-true s.start a both.0 in
-    let high = ltb-true (a - s.start) (length s.bytes) both.1 in
-    let end = placed.high in
-    omega arith
-
-below_by_test : (s : Segment) (a : ℕ) (o : Option Segment) (b : Bool) → holds a s ≡ b → IsPlaced s → (is_some o ≡ true → a < 0x7FFFFFFF) → is_some (cond b (Some s) o) ≡ true → a < 0x7FFFFFFF
-below_by_test s a o true e placed rest h = held_below s a placed e
-below_by_test s a o false e placed rest h = rest h
-
-found_below : (segments : List Segment) (a : ℕ) → ArePlaced segments → is_some (segment_at segments a) ≡ true → a < 0x7FFFFFFF
-found_below [] a placed h = absurd (true≢false (sym h))
-found_below (s ∷ ss) a placed h = below_by_test s a (segment_at ss a) (holds a s) refl placed.0 (found_below ss a placed.2) h
-
 pub number_low : (image : Image) (segments : List Segment) (n : ℕ) (o : Option Segment) → ArePlaced image.segments → segments ≡ image.segments → o ≡ segment_at segments n → is_some o ≡ true → n < 0x7FFFFFFF
-number_low image segments n o placed seen is some = found_below image.segments n placed (ap (λ ss. is_some (segment_at ss n)) (sym seen) ∙ ap is_some (sym is) ∙ some)
+number_low image segments n o placed seen is some = segments_below image.segments n placed (ap (λ ss. is_some (segment_at ss n)) (sym seen) ∙ ap is_some (sym is) ∙ some)
 
 in_segment : (image : Image) (segments : List Segment) (n : ℕ) (o : Option Segment) (b : Bool) → segments ≡ image.segments → o ≡ segment_at segments n → is_some o ≡ b → is_in_segment image n ≡ b
 in_segment image segments n o b seen is some = ap (λ ss. is_some (segment_at ss n)) (sym seen) ∙ ap is_some (sym is) ∙ some
@@ -132,18 +116,6 @@ pub immediates_none : (image : Image) (i : Instr) (taken : List ℤ) → (has_co
 unfolding taken_onto
 immediates_none image i taken isnt =
     sym (ap (λ b. taken_from image taken (cond b (option_to_list (immediate i.dst) ++ option_to_list (immediate i.src) ++ option_to_list i.imm) [])) isnt)
-
-pub and_first : (a b : Bool) → a ≡ false → (a && b) ≡ false
-and_first true b e = absurd (true≢false e)
-and_first false b e = refl
-
-pub and_second : (a b : Bool) → b ≡ false → (a && b) ≡ false
-and_second true b e = e
-and_second false b e = refl
-
-pub and_both : (a b : Bool) → a ≡ true → b ≡ true → (a && b) ≡ true
-and_both true b p q = q
-and_both false b p q = absurd (true≢false (sym p))
 
 three_taken : (image : Image) (a b c d : List ℤ) (xs ys zs : List ℕ) → b ≡ taken_from image a xs → c ≡ taken_from image b ys → d ≡ taken_from image c zs → d ≡ taken_from image a ((xs ++ ys) ++ zs)
 three_taken image a b c d xs ys zs first second third =

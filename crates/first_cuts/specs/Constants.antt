@@ -12,7 +12,7 @@ use Rattle.ia32_types.specs.declared.Operand.TheVariants as operand
 use Rattle.ia32_types.specs.declared.Op.{Op}
 use Rattle.ia32_types.specs.declared.Op.TheVariants as op
 use Rattle.ia32_types.specs.declared.Instr.{Instr}
-use Rattle.abs_steps.specs.Places.{instruction_at}
+use Rattle.ia32_fetch.specs.Fetched.{instruction_at}
 
 -- -- Of one instruction
 

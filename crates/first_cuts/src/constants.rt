@@ -1,18 +1,14 @@
 //! The constants of the code.
-ghost use Rattle.std.specs.Prelude.{◌≡◌, ◌<◌, ◌≤◌, ◌+◌, ◌-◌, [], ◌∷◌, OnOk, length, option_to_list, pos, suc, take};
+ghost use Rattle.std.specs.Prelude.{◌≡◌, ◌<◌, ◌≤◌, ◌+◌, ◌-◌, [], ◌∷◌, OnOk, length, option_to_list, pos, suc};
 ghost use Rattle.image_map.specs.Memory.{has_flag};
 ghost use Rattle.image_map.specs.Whole.{ArePlaced, IsImage, IsPlaced};
 ghost use Rattle.ia32_types.specs.declared.Operand.{Operand};
-ghost use Rattle.ia32_semantics.specs.Fetch.{fetch_window};
-ghost use Rattle.ia32_decode.specs.Decoded.{decoded};
-ghost use Rattle.abs_steps.specs.Places.{instruction_at as instruction_at_spec, instruction_of};
 ghost use Rattle.first_cuts.specs.Constants.{constants as constants_spec, constants_in, displacement as displacement_spec, has_constant as has_constant_spec, immediate as immediate_spec, immediates, is_dword as is_dword_spec, scanned, scanned_segment};
 ghost use Rattle.first_cuts.specs.FirstCuts.{taken_onto};
 ghost use Rattle.first_cuts.specs.Taking.{taken_from};
 
 use crate::taking::{is_full, take_offset};
-use ia32_decode::decode;
-use ia32_fetch::{LONGEST_INSTRUCTION, code_byte};
+use ia32_fetch::fetched;
 use ia32_types::{Instr, Op, Operand, Width};
 use image_map::{Image, PF_X, Segment, segment_holding};
 use std::alloc::AllocError;
@@ -115,48 +111,6 @@ fn take_constants_in(taken: &mut Vec<i32>, image: &Image, instr: &Instr) -> Resu
     Ok(())
 }
 
-// The code at an address, as far as an instruction may reach.
-#[derive(Clone, Copy)]
-struct Window {
-    bytes: [u8; LONGEST_INSTRUCTION],
-    len: usize,
-}
-
-fn window_at(image: &Image, at: u32) -> Window
-    ensures within { result.len ≤ 15 }
-    ensures run { take result.len result.bytes ≡ fetch_window image.now at }
-{
-    let mut bytes = [0; LONGEST_INSTRUCTION];
-    let mut len = 0;
-    'bytes: while len < LONGEST_INSTRUCTION {
-        match code_byte(image, u64::from(at) + len as u64) {
-            None => return Window { bytes, len },
-            Some(byte) => {
-                bytes[len] = byte;
-                len += 1;
-            }
-        }
-    }
-    Window { bytes, len }
-}
-
-// The instruction with which bytes begin.
-fn decoded_at(bytes: &[u8], at: u32) -> Option<Instr>
-    ensures { result ≡ instruction_of (decoded bytes.now at) }
-{
-    match decode(bytes, at) {
-        Err(_) => None,
-        Ok(instr) => Some(instr),
-    }
-}
-
-fn instruction_at(image: &Image, at: u32) -> Option<Instr>
-    ensures { result ≡ instruction_at_spec image.now at }
-{
-    let window = window_at(image, at);
-    decoded_at(&window.bytes[..window.len], at)
-}
-
 // How far an instruction reaches; one byte at least.
 fn length_of(instr: &Instr) -> usize
     ensures value { result ≡ suc (instr.now.len - 1) }
@@ -181,7 +135,7 @@ fn take_scanned(
         if is_full(taken.as_slice()) {
             return Ok(());
         }
-        match instruction_at(image, start + passed as u32) {
+        match fetched(image, start + passed as u32) {
             None => passed += 1,
             Some(instr) => {
                 take_constants_in(taken, image, &instr)?;

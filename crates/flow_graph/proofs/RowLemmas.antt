@@ -13,6 +13,7 @@ use Rattle.std.proofs.lemmas.Nat.{le_or_l, and_le_r, or_lt}
 use Rattle.flow_graph.proofs.GraphLaws.{Has-at, Has-from, Has-within, slice_get-at}
 use Rattle.flow_graph.proofs.MarkedLaws.{marked_all}
 use Rattle.flow_graph.proofs.BitLemmas.{IsBit-zero, bit_or-cases, bit_or-left, bit_or-right, bit_and-both, bit_and-from, set_bit-same, set_bit-other}
+use Rattle.item_list.proofs.TruthLaws.{true_not}
 
 -- one of the first i of these nodes has bit k
 abbrev pub SomeBelow : List ℕ → List ℕ → ℕ → ℕ → Type 0
@@ -145,9 +146,6 @@ swept-none g kept old = record {
 true_or : (b : Bool) → (b ≡ false) ⊎ (b ≡ true)
 true_or true = inr refl
 true_or false = inl refl
-
-true_not : (b : Bool) → b ≡ true → b ≢ false
-true_not b is other = absurd (cc)
 
 pub swept-more : (g : List FlowNode) (kept old mid new : List ℕ) (changed rose : Bool) (i : ℕ) → Swept g kept old mid changed i → GrowsBy g kept mid new rose → (rose ≡ false → IsSettledAt g kept new i) → Swept g kept old new (changed || rose) (i + 1)
 swept-more g kept old mid new changed rose i swept by here =

@@ -138,7 +138,7 @@ pub record Walking (g : List FlowNode) (kept : List Bool) (from : ℕ) (marks : 
   pub waiting : (n : ℕ) → Contains work n → IsOn marks n
   pub search : Searches (First g from) (Onward g kept) (IsOn marks) (Contains work)
 
-off-nothing : (n m : ℕ) → ¬ IsOn (replicate n false) m
+pub off-nothing : (n m : ℕ) → ¬ IsOn (replicate n false) m
 off-nothing n m on =
     let within : m < n = subst (λ l. m < l) (length-replicate n false) (on-within (replicate n false) m on) in
     let off = get_or-replicate n m false false within in absurd (cc)

@@ -1,7 +1,7 @@
 //! What the operands of a form are, given the parts of an instruction.
 
 ghost use Rattle.std.specs.Prelude.{◌≡◌, ◌+◌, ◌-◌, ◌<◌, ◌≤◌, option_map};
-ghost use Rattle.ia32_types.specs.Forms.{plain as plain_form, unary as unary_form, binary as binary_form, ternary as ternary_form, width_of as width_spec, width_bytes as width_bytes_spec, reg_operand as reg_operand_spec, sign_extended as sign_extended_spec, slot_bytes as slot_bytes_spec, some_slot_bytes as some_slot_bytes_spec, form_bytes as form_bytes_spec, has_modrm as has_modrm_spec, slot_has_modrm as slot_has_modrm_spec, reg_mem as reg_mem_spec, is_gs as is_gs_spec, operand_of as operand_spec, third_of as third_spec, finished as finished_spec, parts_width as parts_width_spec, width_limit, is_memory as is_memory_spec, is_offset as is_offset_spec, is_dword as is_long_spec, writes_first as writes_first_spec, stores as stores_spec};
+ghost use Rattle.ia32_types.specs.Forms.{plain as plain_form, unary as unary_form, binary as binary_form, ternary as ternary_form, width_of as width_spec, reg_operand as reg_operand_spec, sign_extended as sign_extended_spec, slot_bytes as slot_bytes_spec, some_slot_bytes as some_slot_bytes_spec, form_bytes as form_bytes_spec, has_modrm as has_modrm_spec, slot_has_modrm as slot_has_modrm_spec, reg_mem as reg_mem_spec, is_gs as is_gs_spec, operand_of as operand_spec, third_of as third_spec, finished as finished_spec, parts_width as parts_width_spec, width_limit, is_memory as is_memory_spec, is_offset as is_offset_spec, is_dword as is_long_spec, writes_first as writes_first_spec, stores as stores_spec};
 
 use ia32_types::forms::{Form, Parts, Segment, Size, Slot};
 use ia32_types::{Instr, Mem, Op, Operand, Reg, Width};
@@ -70,17 +70,6 @@ pub fn width_of(size: Size, operand16: bool) -> Width
     }
 }
 
-/// The number of bytes of an immediate of this width.
-fn width_bytes(width: Width) -> u8
-    ensures { result ≡ width_bytes_spec width }
-{
-    match width {
-        Width::B8 => 1,
-        Width::W16 => 2,
-        Width::D32 => 4,
-    }
-}
-
 /// The register of a number below 8, at a width.
 fn reg_operand(width: Width, n: u8) -> Operand
     ensures { result ≡ reg_operand_spec width n }
@@ -123,7 +112,7 @@ fn slot_bytes(width: Width, slot: Slot) -> u8
         Slot::Fixed(_) => 0,
         Slot::Cl => 0,
         Slot::One => 0,
-        Slot::Imm => width_bytes(width),
+        Slot::Imm => width.bytes() as u8,
         Slot::Imm8 => 1,
         Slot::SignedImm8 => 1,
         Slot::Imm16 => 2,

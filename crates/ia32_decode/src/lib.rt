@@ -45,6 +45,7 @@ fn read_instruction(bytes: &[u8], at: u32) -> Result<Instr, NotDecoded>
 /// `Short` exactly where no first bytes spell one and those of some longer input do; `Unknown`
 /// exactly where those of no longer input do either.
 pub fn decode(bytes: &[u8], at: u32) -> Result<Instr, NotDecoded>
+    ensures value { result ≡ decoded bytes.now at }
     ensures ok { (i : Instr) → (result ≡ Ok i) ↔ Begins bytes.now at i }
     ensures short { (result ≡ Err NotDecoded.Short) ↔ (NoneBegins bytes.now at × SomeLonger bytes.now at) }
     ensures unknown { (result ≡ Err NotDecoded.Unknown) ↔ NoLonger bytes.now at }

@@ -5,8 +5,13 @@ use Rattle.std.specs.Prelude.{Result, Ok, Err}
 use Rattle.image_map.specs.declared.image.Image.{Image}
 use Rattle.ia32_decode.specs.declared.NotDecoded.{NotDecoded}
 use Rattle.ia32_types.specs.declared.Instr.{Instr}
+use Rattle.ia32_types.specs.Operands.{IsInstruction}
 use Rattle.ia32_types.specs.Spells.{Spells, Begins}
+use Rattle.ia32_types.proofs.InstructionLemmas.{spelled_instruction}
+use Rattle.ia32_decode.specs.Decoded.{decoded}
+use Rattle.ia32_decode.proofs.DecodedLemmas.{spelled_ok}
 use Rattle.ia32_semantics.specs.Fetch.{code_byte, begun_by, code_run, fetch_window, IsFetched}
+use Rattle.ia32_fetch.specs.Fetched.{instruction_of, instruction_at}
 
 -- where a byte is known code, the run begins with it
 run_begun : (image : Image) (a m b : ℕ) → code_byte image a ≡ Some b → code_run image a (suc m) ≡ b ∷ code_run image (a + 1) m
@@ -87,3 +92,17 @@ decoded_some image a window j is ok i = (
       let one : j ≡ i = cc in
       ap Some one,
 )
+
+-- what the window decodes to is the instruction there
+pub window_decoded : (image : Image) (a : ℕ) (window : List ℕ) (r : Result Instr NotDecoded) → window ≡ fetch_window image a → r ≡ decoded window a → instruction_of r ≡ instruction_at image a
+unfolding instruction_at
+window_decoded image a window r is found = ap instruction_of (found ∙ ap (λ w. decoded w a) is)
+
+-- it can be spelled
+pub begun_spelled : (bytes : List ℕ) (a : ℕ) (i : Instr) → Begins bytes a i → IsInstruction i
+begun_spelled bytes a i begins = (spelled_instruction begins.used a i begins.spells).is
+
+-- what is fetched is the instruction there
+pub fetched_at : (image : Image) (a : ℕ) (i : Instr) → IsFetched image a i → instruction_at image a ≡ Some i
+unfolding instruction_at
+fetched_at image a i fetched = ap instruction_of (spelled_ok (fetch_window image a) a i ((fetched_begins image a i).1 fetched))

@@ -1,8 +1,10 @@
-ghost use Rattle.std.specs.Prelude.{◌≡◌, ◌≤◌, ◌↔◌, Some, take};
+ghost use Rattle.std.specs.Prelude.{◌≡◌, ◌≤◌, ◌↔◌, Some, IfSome, take};
 ghost use Rattle.std.specs.Option.{option_copied};
 ghost use Rattle.image_map.specs.Memory.{holds, segment_at};
 ghost use Rattle.ia32_types.specs.declared.Instr.{Instr};
+ghost use Rattle.ia32_types.specs.Operands.{IsInstruction};
 ghost use Rattle.ia32_semantics.specs.Fetch.{code_byte, fetch_window, IsFetched};
+ghost use Rattle.ia32_fetch.specs.Fetched.{instruction_at};
 
 use ia32_decode::decode;
 use ia32_types::Instr;
@@ -66,7 +68,9 @@ fn read_window(image: &Image, at: u32) -> Window
 /// The instruction that is fetched at an address, if there is one: the longest run of at most 15
 /// bytes from there on that are all code and all known begins with it.
 pub fn fetched(image: &Image, at: u32) -> Option<Instr>
-    ensures { (i : Instr) → (result ≡ Some i) ↔ IsFetched image.now at i }
+    ensures value { result ≡ instruction_at image.now at }
+    ensures exact { (i : Instr) → (result ≡ Some i) ↔ IsFetched image.now at i }
+    ensures spelled { IfSome result IsInstruction }
 {
     let window = read_window(image, at);
     match decode(&window.bytes[..window.len], at) {

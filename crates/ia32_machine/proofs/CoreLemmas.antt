@@ -1,11 +1,11 @@
 -- Registers and flags of a core, of which one is changed.
-use Rattle.std.proofs.Common.{◌≡◌, ℕ, zero, suc, ◌+◌, ◌*◌, ◌/◌, ◌%◌, ◌-◌, ◌^◌, ◌<◌, List, [], ◌∷◌, ◌++◌, length, refl, sym, ap, subst, ◌∙◌, arith, eqb-true}
+use Rattle.std.proofs.Common.{◌≡◌, ℕ, zero, suc, ◌+◌, ◌*◌, ◌/◌, ◌%◌, ◌-◌, ◌^◌, ◌<◌, List, [], ◌∷◌, length, refl, sym, ap, subst, ◌∙◌, arith, eqb-true}
 use Rattle.std.specs.Prelude.{Bool, true, false, cond, ◌==◌, slice_index, slice_set, if◌then◌else◌}
 use Rattle.std.proofs.lemmas.Bool.Decides.{nat_tests}
 use Rattle.std.proofs.Math.Nat.{add-mod-mod}
 use mathlib.Core.Path.{fun_ext}
-use Rattle.ia32_semantics.specs.State.{State, put}
-use Rattle.ia32_semantics.specs.Effects.{Effect, Part, sets, turns, changed, all_changed, with_part, Word}
+use Rattle.ia32_semantics.specs.State.{put}
+use Rattle.ia32_semantics.specs.Effects.{Part, sets, turns, changed, with_part, Word}
 use Rattle.ia32_types.specs.declared.Flag.{Flag}
 use Rattle.ia32_types.specs.declared.Flag.TheVariants as kind
 use Rattle.ia32_types.specs.Numbers.{flag_number}
@@ -84,10 +84,6 @@ flag_5 a b c d e f v = fun_ext (λ n. flag_case 5 n v f (λ t w. cond (n == 0) a
     (λ is. subst (λ m. six a b c d e v m ≡ v) is refl))
 
 -- -- Effects, one list after another
-
-pub changed_append : (es fs : List Effect) (s : State) → all_changed (es ++ fs) s ≡ all_changed fs (all_changed es s)
-changed_append [] fs s = refl
-changed_append (e ∷ es) fs s = changed_append es fs (changed e s)
 
 -- AX takes the halves of a product of bytes
 pub halves_word : (old low high : ℕ) → with_part Word old (low % 65536 + 256 * (high % 256)) ≡ with_part Word old (low + 256 * high)

@@ -14,7 +14,8 @@ use Rattle.ia32_semantics.specs.declared.flags.FlagOut.{FlagOut}
 use Rattle.ia32_semantics.specs.declared.flags.FlagOut.TheVariants as out
 use Rattle.ia32_semantics.specs.State.{Bytes, Location, AtByte}
 use Rattle.ia32_semantics.specs.Effects.{Effect, Whole, sets, effect_fits, effect_takes, effects_write, effects_take, effects_fit, is_among, is_open, is_mapped, all_among}
-use Rattle.ia32_semantics.specs.Operands.{size, flag_effect, flag_effects}
+use Rattle.ia32_types.specs.Numbers.{size}
+use Rattle.ia32_semantics.specs.Operands.{flag_effect, flag_effects}
 use Rattle.ia32_semantics.specs.Strings.{stepped, copied, filled}
 use Rattle.ia32_semantics.proofs.EffectLemmas.{and_left, and_right}
 use Rattle.ia32_semantics.proofs.ReadingLemmas.{same_number}
@@ -29,7 +30,7 @@ use Rattle.ia32_plan.specs.declared.words.Reads.{Reads}
 use Rattle.ia32_plan.specs.declared.words.Reads.TheVariants as reads
 use Rattle.ia32_plan.specs.Plans.{entry_effects, all_effects}
 use Rattle.ia32_plan.specs.Views.{covers, has_read}
-use Rattle.ia32_semantics.proofs.ChangeLemmas.{write_append}
+use Rattle.ia32_semantics.proofs.ChangeLemmas.{write_append, flags_write_none}
 use Rattle.item_list.proofs.RangeLaws.{none_within}
 use Rattle.item_list.specs.Ranges.{within}
 use Rattle.ia32_machine.specs.Touches.{span_of, elements_span, read_span, number_spans, source_spans, target_spans, of_entries, read_spans}
@@ -101,21 +102,6 @@ module _ (test : ℕ → Bool) (low : AreLow test) where
 
 -- -- Entries
 
-no_bytes : (n : ℕ) (o : FlagOut) (x : ℕ) → effects_write (flag_effect n o) (AtByte x) ≡ false
-no_bytes n (out.Set value) x = refl
-no_bytes n out.Kept x = refl
-no_bytes n out.Undefined x = refl
-
-none_of_both : (es fs : List Effect) (l : Location) → effects_write es l ≡ false → effects_write fs l ≡ false → effects_write (es ++ fs) l ≡ false
-none_of_both es fs l p q = write_append es fs l ∙ ap (λ b. b || effects_write fs l) p ∙ q
-
-flags_no_bytes : (f : FlagsOut) (x : ℕ) → effects_write (flag_effects f) (AtByte x) ≡ false
-flags_no_bytes f x =
-    none_of_both (((flag_effect 0 f.cf ++ flag_effect 1 f.pf) ++ flag_effect 2 f.zf) ++ flag_effect 3 f.sf) (flag_effect 4 f.of) (AtByte x)
-    (none_of_both ((flag_effect 0 f.cf ++ flag_effect 1 f.pf) ++ flag_effect 2 f.zf) (flag_effect 3 f.sf) (AtByte x)
-    (none_of_both (flag_effect 0 f.cf ++ flag_effect 1 f.pf) (flag_effect 2 f.zf) (AtByte x)
-    (none_of_both (flag_effect 0 f.cf) (flag_effect 1 f.pf) (AtByte x) (no_bytes 0 f.cf x) (no_bytes 1 f.pf x)) (no_bytes 2 f.zf x)) (no_bytes 3 f.sf x)) (no_bytes 4 f.of x)
-
 module _ (image : Image) (memory : Bytes) (low : AreLow (is_mapped memory)) where
   open_low : AreLow (is_open image memory)
   open_low a e = low a (and_left (is_some (memory a)) _ e)
@@ -135,7 +121,7 @@ module _ (image : Image) (memory : Bytes) (low : AreLow (is_mapped memory)) wher
   targets_are (entry.Set width reg value) x fits = refl
   targets_are (entry.High reg value) x fits = refl
   targets_are (entry.Turn flag value) x fits = refl
-  targets_are (entry.Flags flags) x fits = sym (flags_no_bytes flags x)
+  targets_are (entry.Flags flags) x fits = sym (flags_write_none flags x)
   targets_are (entry.Store at width value) x fits =
       ap (λ b. b || false) (number_is (is_open image memory) open_low width at x (sym (bytes_among (is_open image memory) at (size width) value) ∙ and_left _ true fits)
       ∙ sym (of_number at (size width) value x))

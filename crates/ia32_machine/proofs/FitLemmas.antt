@@ -5,10 +5,11 @@ use mathlib.Core.Path.{fun_ext}
 use Rattle.image_map.specs.declared.image.Image.{Image}
 use Rattle.ia32_types.specs.declared.Width.{Width}
 use Rattle.ia32_semantics.specs.State.{State, Bytes}
-use Rattle.ia32_semantics.specs.Effects.{Effect, Whole, sets, stores, all_changed, is_open, is_mapped, all_among, effect_fits, effects_fit}
-use Rattle.ia32_semantics.specs.Operands.{size, number_bytes}
+use Rattle.ia32_semantics.specs.Effects.{Effect, Whole, sets, stores, all_changed, is_open, is_mapped, all_among, effects_fit}
+use Rattle.ia32_types.specs.Numbers.{size}
+use Rattle.ia32_semantics.specs.Operands.{number_bytes}
 use Rattle.ia32_semantics.specs.Strings.{stepped, copied, filled}
-use Rattle.ia32_semantics.proofs.EffectLemmas.{and_left, and_right, all_fit_same, effects_map}
+use Rattle.ia32_semantics.proofs.EffectLemmas.{and_left, and_right, all_fit_same, effects_map, fit_append}
 use Rattle.ia32_memory.specs.Mapped.{Mapped, bytes_of, is_open_at}
 use Rattle.ia32_memory.specs.Changes.{all_in_elements}
 use Rattle.ia32_memory.proofs.EffectLaws.{bytes_among, filled_fits, copied_fits}
@@ -19,17 +20,9 @@ use Rattle.ia32_plan.specs.declared.entries.Effects.TheVariants as effects
 use Rattle.ia32_plan.specs.Plans.{entry_effects, all_effects}
 use Rattle.ia32_machine.specs.Opens.{KnowsOpen}
 
-and_assoc : (a b c : Bool) → (a && (b && c)) ≡ (a && b && c)
-and_assoc true b c = refl
-and_assoc false b c = refl
-
 pub and_none : (a : Bool) → (a && true) ≡ a
 and_none true = refl
 and_none false = refl
-
-pub fit_append : (image : Image) (m : Bytes) (es fs : List Effect) → effects_fit image m (es ++ fs) ≡ (effects_fit image m es && effects_fit image m fs)
-fit_append image m [] fs = refl
-fit_append image m (e ∷ es) fs = ap (λ b. effect_fits image m e && b) (fit_append image m es fs) ∙ and_assoc (effect_fits image m e) (effects_fit image m es) (effects_fit image m fs)
 
 -- effects that fit leave the others to fit, since none changes what is mapped
 pub fit_after : (image : Image) (es fs : List Effect) (s : State) → effects_fit image s.memory (es ++ fs) ≡ true

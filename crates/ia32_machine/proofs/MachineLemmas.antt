@@ -1,7 +1,7 @@
 -- The machine's step is one of the definitions, and where it faults there is none.
 use Rattle.std.proofs.Common.{◌≡◌, ℕ, ◌<◌, ◌^◌, List, length, refl, sym, ap, ◌∙◌}
-use Rattle.std.specs.Prelude.{Bool, true, false, ◌&&◌, Some, None, is_some}
-use Rattle.std.proofs.lemmas.Bool.{and_from}
+use Rattle.std.specs.Prelude.{true, false, ◌&&◌, Some, None, is_some}
+use Rattle.std.proofs.lemmas.Bool.{and_from, and_right, and_left}
 use Rattle.image_map.specs.declared.image.Image.{Image}
 use Rattle.image_map.specs.declared.region.Activation.{Activation}
 use Rattle.image_map.specs.declared.region.Block.{Block}
@@ -104,14 +104,6 @@ step_unplanned image i words core activations blocks allocs slot none =
     unplanned_faults image i (with_calls (views.state_of core) activations blocks allocs slot) words
     (outcome_alike (row i.op i) (with_calls (views.state_of core) activations blocks allocs slot) (views.state_of core) words (alike (views.state_of core) activations blocks allocs slot) ∙ none)
 
-and_false : (a b : Bool) → a ≡ false → (a && b) ≡ false
-and_false true b e = ap (λ x. x && b) e
-and_false false b e = refl
-
-and_later : (a b : Bool) → b ≡ false → (a && b) ≡ false
-and_later true b e = e
-and_later false b e = refl
-
 step_impossible : (image : Image) (i : Instr) (words left : List ℕ) (plan : Plan) (core : Core) (activations : List Activation) (blocks : List Block) (allocs : List Allocation) (slot : ℕ)
     → outcome (row i.op i) (views.state_of core) words ≡ Some (outcome_of plan, left)
     → (effects_fit image (bytes_of core.memory) (all_effects plan.effects) && can_move (move_of plan.calls) activations) ≡ false
@@ -125,10 +117,10 @@ pub step_unfit : (image : Image) (i : Instr) (words left : List ℕ) (plan : Pla
     → outcome (row i.op i) (views.state_of core) words ≡ Some (outcome_of plan, left) → effects_fit image (bytes_of core.memory) (all_effects plan.effects) ≡ false
     → Faults image i words (with_calls (views.state_of core) activations blocks allocs slot)
 step_unfit image i words left plan core activations blocks allocs slot planned unfit =
-    step_impossible image i words left plan core activations blocks allocs slot planned (and_false (effects_fit image (bytes_of core.memory) (all_effects plan.effects)) (can_move (move_of plan.calls) activations) unfit)
+    step_impossible image i words left plan core activations blocks allocs slot planned (and_left (effects_fit image (bytes_of core.memory) (all_effects plan.effects)) (can_move (move_of plan.calls) activations) unfit)
 
 pub step_unmoved : (image : Image) (i : Instr) (words left : List ℕ) (plan : Plan) (core : Core) (activations : List Activation) (blocks : List Block) (allocs : List Allocation) (slot : ℕ)
     → outcome (row i.op i) (views.state_of core) words ≡ Some (outcome_of plan, left) → can_move (move_of plan.calls) activations ≡ false
     → Faults image i words (with_calls (views.state_of core) activations blocks allocs slot)
 step_unmoved image i words left plan core activations blocks allocs slot planned unmoved =
-    step_impossible image i words left plan core activations blocks allocs slot planned (and_later (effects_fit image (bytes_of core.memory) (all_effects plan.effects)) (can_move (move_of plan.calls) activations) unmoved)
+    step_impossible image i words left plan core activations blocks allocs slot planned (and_right (effects_fit image (bytes_of core.memory) (all_effects plan.effects)) (can_move (move_of plan.calls) activations) unmoved)

@@ -4,9 +4,10 @@ use Rattle.std.specs.Prelude.{Bool, true}
 use Rattle.image_map.specs.declared.image.Image.{Image}
 use Rattle.ia32_semantics.specs.State.{State, Bytes, put}
 use Rattle.ia32_semantics.specs.Effects.{Effect, Whole, Word, sets, stores, changed, all_changed, effects_fit, all_of_bytes, is_open}
-use Rattle.ia32_semantics.specs.Operands.{size, number_bytes}
+use Rattle.ia32_types.specs.Numbers.{size}
+use Rattle.ia32_semantics.specs.Operands.{number_bytes}
 use Rattle.ia32_semantics.specs.Strings.{stepped, copied, filled}
-use Rattle.ia32_semantics.proofs.EffectLemmas.{and_left}
+use Rattle.ia32_semantics.proofs.EffectLemmas.{and_left, changed_append}
 use Rattle.ia32_memory.specs.Changes.{with_bytes, filled_over, copied_over}
 use Rattle.ia32_memory.proofs.EffectLaws.{stored_is, filled_is, copied_is}
 use Rattle.ia32_types.specs.declared.Width.{Width}
@@ -15,7 +16,7 @@ use Rattle.ia32_plan.specs.declared.entries.Entry.TheVariants as entry
 use Rattle.ia32_plan.specs.declared.entries.Effects.{Effects}
 use Rattle.ia32_plan.specs.declared.entries.Effects.TheVariants as effects
 use Rattle.ia32_plan.specs.Plans.{entry_effects, all_effects}
-use Rattle.ia32_machine.proofs.CoreLemmas.{changed_append, halves_word}
+use Rattle.ia32_machine.proofs.CoreLemmas.{halves_word}
 use Rattle.ia32_machine.proofs.FitLemmas.{fit_after}
 
 -- one list of effects after another

@@ -32,7 +32,7 @@ use Rattle.ia32_semantics.specs.Laws.{has_register, has_flag, is_repeated}
 use Rattle.ia32_semantics.proofs.EffectLemmas.{by_test, and_left, and_right, or_true}
 use Rattle.ia32_semantics.proofs.RowWithinLemmas.{steps_keep_to_tables}
 use Rattle.ia32_memory.proofs.StartLaws.{segment_low}
-use Rattle.item_list.proofs.TruthLaws.{eqb_swapped}
+use Rattle.item_list.proofs.TruthLaws.{eqb_swapped, same_test}
 use Rattle.ia32_machine.specs.Steps.{executes}
 use Rattle.ia32_machine.proofs.SureRowLemmas.{row_sure}
 use Rattle.ia32_machine.proofs.SureFlagLemmas.{row_flags_sure}
@@ -155,11 +155,6 @@ idle_row op.Cld i s words e zero = absurd (false≢true e)
 idle_row op.Std i s words e zero = absurd (false≢true e)
 
 -- -- Sets of registers and flags
-
-same_test : (a b : Bool) → (a ≡ true → b ≡ true) → (b ≡ true → a ≡ true) → a ≡ b
-same_test true b f g = sym (f refl)
-same_test false true f g = absurd (false≢true (g refl))
-same_test false false f g = refl
 
 listed_reg : (r : Reg) (regs : List Reg) → is_listed_reg regs r ≡ has_register regs (reg_number r)
 listed_reg r [] = refl

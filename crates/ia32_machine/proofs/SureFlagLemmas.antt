@@ -7,7 +7,7 @@ use Rattle.ia32_types.specs.declared.Flag.TheVariants.{Cf, Pf, Zf, Sf, Of, Df}
 use Rattle.ia32_types.specs.declared.Op.{Op}
 use Rattle.ia32_types.specs.declared.Op.TheVariants as op
 use Rattle.ia32_types.specs.declared.Instr.{Instr}
-use Rattle.ia32_types.specs.Numbers.{flag_number}
+use Rattle.ia32_types.specs.Numbers.{flag_number, size}
 use Rattle.ia32_types.specs.Places as places
 use Rattle.ia32_types.specs.Places.{op_flag_reads}
 use Rattle.ia32_semantics.specs.declared.flags.Flags.{Flags}
@@ -15,7 +15,7 @@ use Rattle.ia32_semantics.specs.State.{State, Location, InFlag}
 use Rattle.ia32_semantics.specs.Reading.{Reading, gives, flag, ◌>>=◌}
 use Rattle.ia32_semantics.specs.Effects.{Effect, Whole, sets}
 use Rattle.ia32_semantics.specs.Outcome.{Outcome}
-use Rattle.ia32_semantics.specs.Operands.{size, whole_register, no_flags, value_of, condition_flags, condition, flag_value}
+use Rattle.ia32_semantics.specs.Operands.{whole_register, no_flags, value_of, condition_flags, condition, flag_value}
 use Rattle.ia32_semantics.specs.Strings.{movs_effects, stos_effects, repeated}
 use Rattle.ia32_semantics.specs.Rows.{carry_in, computed, row}
 use Rattle.ia32_semantics.specs.Laws.{has_flag}

@@ -11,7 +11,7 @@ use Rattle.ia32_types.specs.declared.Operand.TheVariants as operand
 use Rattle.ia32_types.specs.declared.Op.{Op}
 use Rattle.ia32_types.specs.declared.Op.TheVariants as op
 use Rattle.ia32_types.specs.declared.Instr.{Instr}
-use Rattle.ia32_types.specs.Numbers.{reg_number}
+use Rattle.ia32_types.specs.Numbers.{reg_number, size}
 use Rattle.ia32_types.specs.Places as places
 use Rattle.ia32_types.specs.Places.{op_reads, op_flag_reads}
 use Rattle.ia32_semantics.specs.Product.{extended}
@@ -20,7 +20,7 @@ use Rattle.ia32_semantics.specs.State.{State, Location, InRegister}
 use Rattle.ia32_semantics.specs.Reading.{Reading, gives, ◌>>=◌}
 use Rattle.ia32_semantics.specs.Effects.{Effect, Whole, sets}
 use Rattle.ia32_semantics.specs.Outcome.{Outcome}
-use Rattle.ia32_semantics.specs.Operands.{bits, size, whole_register, flag_value, stored_word, value_of, address_of, store_to, raised, is_esp, any_flags, condition}
+use Rattle.ia32_semantics.specs.Operands.{bits, whole_register, flag_value, stored_word, value_of, address_of, store_to, raised, is_esp, any_flags, condition}
 use Rattle.ia32_semantics.specs.Strings.{movs_effects, stos_effects, repeated}
 use Rattle.ia32_semantics.specs.Rows.{product_undefined, halves, dividend_halves, goes_on, altered, shifted, multiplied, imul, divided, addressed, tested, chosen, popped, strung, row}
 use Rattle.ia32_semantics.specs.Laws.{has_register, is_repeated}

@@ -8,7 +8,7 @@ use Rattle.ia32_types.specs.declared.Flag.{Flag}
 use Rattle.ia32_types.specs.declared.Instr.{Instr}
 use Rattle.ia32_types.specs.declared.Width.{Width}
 use Rattle.ia32_types.specs.declared.Width.TheVariants.{B8, W16, D32}
-use Rattle.ia32_types.specs.Numbers.{reg_number, flag_number, is_same_reg, is_same_flag}
+use Rattle.ia32_types.specs.Numbers.{reg_number, flag_number, is_same_reg, is_same_flag, size}
 use Rattle.ia32_types.specs.Places.{registers_read, flags_read}
 use Rattle.ia32_types.specs.Sets.{has_reg, has_flag, is_listed_reg, is_listed_flag}
 use Rattle.ia32_semantics.specs.declared.flags.FlagOut.{FlagOut}
@@ -16,7 +16,6 @@ use Rattle.ia32_semantics.specs.declared.flags.FlagOut.TheVariants as out
 use Rattle.ia32_semantics.specs.State.{Location, InRegister, InFlag, AtByte}
 use Rattle.ia32_semantics.specs.Effects.{effects_write}
 use Rattle.ia32_semantics.specs.Laws.{is_repeated}
-use Rattle.ia32_semantics.specs.Operands.{size}
 use Rattle.ia32_semantics.specs.Strings.{stepped}
 use Rattle.ia32_plan.specs.declared.state.Core.{Core}
 use Rattle.ia32_plan.specs.declared.entries.Plan.{Plan}

@@ -3,39 +3,20 @@
 ghost use Rattle.std.specs.Prelude.{◌≡◌, ◌≤◌, ◌-◌, ◌^◌, true, if◌then◌else◌, [], ◌∷◌, ◌++◌};
 ghost use Rattle.image_map.specs.declared.image.Image.{Image};
 ghost use Rattle.image_map.specs.Shapes.{shapes};
-ghost use Rattle.ia32_types.specs.Numbers.{reg_number, flag_number};
-ghost use Rattle.ia32_semantics.specs.Effects.{Whole, Low, High, sets, turns, changed, all_changed, effects_fit, with_part as with_part_spec};
-ghost use Rattle.ia32_semantics.specs.Operands.{part_of, size, flag_effect, flag_effects};
+ghost use Rattle.ia32_types.specs.Numbers.{reg_number, flag_number, size};
+ghost use Rattle.ia32_semantics.specs.Effects.{Whole, Low, High, sets, turns, changed, all_changed, effects_fit};
+ghost use Rattle.ia32_semantics.specs.Operands.{part_of, flag_effect, flag_effects};
 ghost use Rattle.ia32_semantics.specs.Rows.{halves, quotient_effects};
 ghost use Rattle.ia32_semantics.specs.Strings.{stepped as stepped_spec, copied, filled};
 ghost use Rattle.ia32_memory.specs.Mapped.{bytes_of};
 ghost use Rattle.ia32_plan.specs.Plans.{entry_effects, all_effects};
 ghost use Rattle.ia32_plan.specs.Views.{state_of};
 
+use ia32_alu::{with_part, with_second_byte};
 use ia32_memory::Elements;
 use ia32_plan::{Core, Effects, Entry};
 use ia32_semantics::{FlagOut, FlagsOut};
 use ia32_types::{Flag, Reg, Width};
-
-/// A register's value with the part that an operand of a width is replaced.
-#[tactic(auto, unfolding(ia32_semantics::specs::Effects::with_part))]
-fn with_part(width: Width, old: u32, value: u32) -> u32
-    ensures { result ≡ with_part_spec (part_of width) old value }
-{
-    match width {
-        Width::B8 => old / 256 * 256 + value % 256,
-        Width::W16 => old / 65_536 * 65_536 + value % 65_536,
-        Width::D32 => value,
-    }
-}
-
-/// A register's value with its bits 8 to 15 replaced.
-#[tactic(auto, unfolding(ia32_semantics::specs::Effects::with_part))]
-fn with_high(old: u32, value: u32) -> u32
-    ensures { result ≡ with_part_spec High old value }
-{
-    old / 65_536 * 65_536 + value % 256 * 256 + old % 256
-}
 
 /// Puts a value into a register, or into the part of it that an operand of a width is.
 fn set(core: &mut Core, width: Width, reg: Reg, value: u32)
@@ -51,7 +32,7 @@ fn set_high(core: &mut Core, reg: Reg, value: u32)
     ensures memory { core.new.memory ≡ core.old.memory }
 {
     let at = usize::from(reg.number());
-    core.regs[at] = with_high(core.regs[at], value);
+    core.regs[at] = with_second_byte(core.regs[at], value);
 }
 
 fn turn(core: &mut Core, flag: Flag, value: bool)
@@ -137,26 +118,14 @@ fn set_quotient(core: &mut Core, width: Width, quotient: u32, remainder: u32)
     }
 }
 
-/// How many bytes a width has.
-pub fn bytes_in(width: Width) -> u32
-    ensures value { result ≡ size width }
-    ensures least { 1 ≤ result }
-{
-    match width {
-        Width::B8 => 1,
-        Width::W16 => 2,
-        Width::D32 => 4,
-    }
-}
-
 /// How far an address goes by one element.
 fn step(down: bool, width: Width) -> u32
     ensures { result ≡ (if down then 2 ^ 32 - size width else size width) }
 {
     if down {
-        u32::MAX - (bytes_in(width) - 1)
+        u32::MAX - (width.bytes() - 1)
     } else {
-        bytes_in(width)
+        width.bytes()
     }
 }
 

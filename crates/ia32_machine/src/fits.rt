@@ -7,7 +7,6 @@ ghost use Rattle.ia32_memory.specs.Mapped.{bytes_of};
 ghost use Rattle.ia32_machine.specs.Opens.{KnowsOpen};
 ghost use Rattle.ia32_plan.specs.Plans.{entry_effects, all_effects};
 
-use crate::apply::bytes_in;
 use ia32_memory::{Elements, Memory};
 use ia32_plan::{Effects, Entry};
 
@@ -22,7 +21,7 @@ pub fn entry_fits(memory: &Memory, entry: &Entry) -> bool
         | Entry::Flags(_)
         | Entry::Halves { .. }
         | Entry::Quotient { .. } => true,
-        Entry::Store { at, width, .. } => memory.is_open(*at, bytes_in(*width)),
+        Entry::Store { at, width, .. } => memory.is_open(*at, width.bytes()),
         Entry::Copied {
             down,
             width,

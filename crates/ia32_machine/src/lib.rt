@@ -9,7 +9,7 @@ mod step;
 mod tests;
 mod touched;
 
-pub use apply::{bytes_in, perform, perform_all};
+pub use apply::{perform, perform_all};
 pub use fits::{all_fit, entry_fits};
 pub use machine::Machine;
 pub use step::{Choice, StepError, can_move, go_on, move_calls};

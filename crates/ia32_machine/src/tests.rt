@@ -125,7 +125,7 @@ fn blocks_are_mapped(rt: HostRuntime) -> Result<(), Fail> {
     let stored = instruction(Op::Mov, Width::D32, at(0x9000_000C), eax);
     let out = machine.step(alloc, &stored, &CHOICE).ok().ok_or("stored")?;
     assert_eq!(rt; out.reads.regs, RegSet::EAX);
-    assert_eq!(rt; out.writes.regs, RegSet(0));
+    assert_eq!(rt; out.writes.regs, RegSet::none());
     let span = Span {
         start: 0x9000_000C,
         end: 0x9000_0010,

@@ -6,17 +6,16 @@ ghost use Rattle.ia32_types.specs.declared.Reg.{Reg};
 ghost use Rattle.ia32_types.specs.declared.Reg.TheVariants.{Ecx};
 ghost use Rattle.ia32_types.specs.declared.Flag.{Flag};
 ghost use Rattle.ia32_types.specs.declared.Flag.TheVariants.{Cf, Pf, Zf, Sf, Of};
-ghost use Rattle.ia32_types.specs.Numbers.{reg_number, flag_number, is_same_reg, is_same_flag};
+ghost use Rattle.ia32_types.specs.Numbers.{reg_number, flag_number, is_same_reg, is_same_flag, size};
 ghost use Rattle.ia32_types.specs.Places.{registers_read as registers_read_spec, flags_read as flags_read_spec};
 ghost use Rattle.ia32_types.specs.Sets.{has_reg, has_flag, is_listed_reg, is_listed_flag};
 ghost use Rattle.ia32_semantics.specs.State.{InRegister, InFlag};
 ghost use Rattle.ia32_semantics.specs.Effects.{effects_write};
 ghost use Rattle.ia32_semantics.specs.Laws.{is_repeated as is_repeated_spec};
-ghost use Rattle.ia32_semantics.specs.Operands.{size};
 ghost use Rattle.ia32_plan.specs.Plans.{entry_effects, all_effects};
 ghost use Rattle.ia32_machine.specs.Touches.{has_halves, is_set_flag, span_of as span_of_spec, elements_span as elements_span_spec, number_spans as number_spans_spec, source_spans as source_spans_spec, target_spans as target_spans_spec, of_entries, read_spans as read_spans_spec, IsToldOf};
 
-use crate::apply::{bytes_in, stepped};
+use crate::apply::stepped;
 use ia32_memory::Elements;
 use ia32_plan::{Core, Effects, Entry, Plan, Reads, Words};
 use ia32_semantics::{FlagOut, FlagsOut};
@@ -45,18 +44,6 @@ pub struct StepOut {
     pub forgets: Option<u32>,
     /// How many words of choice it took.
     pub used: u32,
-}
-
-fn no_regs() -> RegSet
-    ensures { (r : Reg) → has_reg result r ≡ false }
-{
-    RegSet(0)
-}
-
-fn no_flags() -> FlagSet
-    ensures { (f : Flag) → has_flag result f ≡ false }
-{
-    FlagSet(0)
 }
 
 /// Two registers.
@@ -99,7 +86,7 @@ fn flags_read(core: &Core, i: &Instr) -> FlagSet
     ensures { (f : Flag) → has_flag result f ≡ (if is_repeated_spec i.now.op && slice_index core.now.regs 1 == 0 then false else is_listed_flag (flags_read_spec i.now) f) }
 {
     if is_idle(core, &i.op) {
-        no_flags()
+        FlagSet::none()
     } else {
         flag_reads(i)
     }
@@ -121,7 +108,7 @@ fn entry_registers(entry: &Entry) -> RegSet
 {
     match entry {
         Entry::Set(_, reg, _) | Entry::High(reg, _) => RegSet::only(*reg),
-        Entry::Turn(..) | Entry::Flags(_) | Entry::Store { .. } => no_regs(),
+        Entry::Turn(..) | Entry::Flags(_) | Entry::Store { .. } => RegSet::none(),
         Entry::Halves { width, .. } => halves(*width),
         Entry::Quotient { width, .. } => halves(*width),
         Entry::Copied { .. } => pair(Reg::Esi, Reg::Edi),
@@ -134,7 +121,7 @@ fn registers_written(effects: &Effects) -> RegSet
     ensures { (r : Reg) → has_reg result r ≡ effects_write (all_effects effects.now) (InRegister (reg_number r)) }
 {
     match effects {
-        Effects::Nothing => no_regs(),
+        Effects::Nothing => RegSet::none(),
         Effects::One(first) => entry_registers(first),
         Effects::Two(first, second) => entry_registers(first).with(entry_registers(second)),
     }
@@ -146,7 +133,7 @@ fn flag_set(flag: Flag, out: FlagOut) -> FlagSet
 {
     match out {
         FlagOut::Set(_) => FlagSet::only(flag),
-        FlagOut::Kept | FlagOut::Undefined => no_flags(),
+        FlagOut::Kept | FlagOut::Undefined => FlagSet::none(),
     }
 }
 
@@ -168,11 +155,11 @@ fn entry_flags(entry: &Entry) -> FlagSet
     match entry {
         Entry::Turn(flag, _) => FlagSet::only(*flag),
         Entry::Flags(flags) => flags_set(flags),
-        Entry::Set(..) | Entry::High(..) | Entry::Store { .. } => no_flags(),
-        Entry::Halves { .. } => no_flags(),
-        Entry::Quotient { .. } => no_flags(),
-        Entry::Copied { .. } => no_flags(),
-        Entry::Filled { .. } => no_flags(),
+        Entry::Set(..) | Entry::High(..) | Entry::Store { .. } => FlagSet::none(),
+        Entry::Halves { .. } => FlagSet::none(),
+        Entry::Quotient { .. } => FlagSet::none(),
+        Entry::Copied { .. } => FlagSet::none(),
+        Entry::Filled { .. } => FlagSet::none(),
     }
 }
 
@@ -181,7 +168,7 @@ fn flags_written(effects: &Effects) -> FlagSet
     ensures { (f : Flag) → has_flag result f ≡ effects_write (all_effects effects.now) (InFlag (flag_number f)) }
 {
     match effects {
-        Effects::Nothing => no_flags(),
+        Effects::Nothing => FlagSet::none(),
         Effects::One(first) => entry_flags(first),
         Effects::Two(first, second) => entry_flags(first).with(entry_flags(second)),
     }
@@ -193,7 +180,7 @@ fn span_of(at: u32, width: Width) -> Span
 {
     Span {
         start: at,
-        end: at.wrapping_add(bytes_in(width)),
+        end: at.wrapping_add(width.bytes()),
     }
 }
 
@@ -207,7 +194,7 @@ fn elements_span(elements: Elements, at: u32) -> Span
         let end = if count == 0 {
             start
         } else {
-            at.wrapping_add(bytes_in(width))
+            at.wrapping_add(width.bytes())
         };
         Span { start, end }
     } else {

@@ -1,6 +1,6 @@
 ghost use Rattle.std.specs.Prelude.{◌≡◌};
 ghost use Rattle.ia32_semantics.specs.Effects.{is_mapped};
-ghost use Rattle.ia32_semantics.specs.Operands.{size};
+ghost use Rattle.ia32_types.specs.Numbers.{size};
 ghost use Rattle.ia32_semantics.specs.Strings.{stepped};
 ghost use Rattle.ia32_memory.specs.Mapped.{bytes_of, is_open_at};
 ghost use Rattle.ia32_memory.specs.Changes.{all_in_elements};
@@ -16,21 +16,11 @@ pub struct Elements {
     pub count: u32,
 }
 
-fn bytes_in(width: Width) -> u32
-    ensures { result ≡ size width }
-{
-    match width {
-        Width::B8 => 1,
-        Width::W16 => 2,
-        Width::D32 => 4,
-    }
-}
-
 /// The address of the next element.
 pub(crate) fn next(down: bool, width: Width, address: u32) -> u32
     ensures { result ≡ stepped down (size width) 1 address }
 {
-    let size = bytes_in(width);
+    let size = width.bytes();
     if down {
         address.wrapping_sub(size)
     } else {
@@ -43,7 +33,7 @@ impl Memory {
     pub fn are_mapped(&self, elements: Elements, address: u32) -> bool
         ensures { result ≡ all_in_elements (is_mapped (bytes_of self.now)) elements.down (size elements.width) elements.count address }
     {
-        let size = bytes_in(elements.width);
+        let size = elements.width.bytes();
         let mut at = address;
         for _ in 0..elements.count {
             if !self.is_mapped(at, size) {
@@ -58,7 +48,7 @@ impl Memory {
     pub fn are_open(&self, elements: Elements, address: u32) -> bool
         ensures { result ≡ all_in_elements (is_open_at self.now) elements.down (size elements.width) elements.count address }
     {
-        let size = bytes_in(elements.width);
+        let size = elements.width.bytes();
         let mut at = address;
         for _ in 0..elements.count {
             if !self.is_open(at, size) {

@@ -1,6 +1,7 @@
 ghost use Rattle.std.specs.Prelude.{◌≡◌, ◌+◌, ◌<◌, ◌^◌, IfSome};
 ghost use Rattle.ia32_semantics.specs.State.{word_at};
-ghost use Rattle.ia32_semantics.specs.Operands.{bits, size};
+ghost use Rattle.ia32_types.specs.Numbers.{size};
+ghost use Rattle.ia32_semantics.specs.Operands.{bits};
 ghost use Rattle.ia32_semantics.specs.Effects.{all_among, is_mapped};
 ghost use Rattle.ia32_memory.specs.Mapped.{bytes_of, is_open_at, number_at, two, four};
 

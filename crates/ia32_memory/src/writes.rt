@@ -1,7 +1,8 @@
 ghost use Rattle.std.specs.Prelude.{◌≡◌, ℕ, ◌+◌, ◌<◌, [], ◌∷◌};
 ghost use Rattle.image_map.specs.Shapes.{shapes};
 ghost use Rattle.ia32_semantics.specs.Effects.{byte_or_zero, bytes_from};
-ghost use Rattle.ia32_semantics.specs.Operands.{size, number_bytes};
+ghost use Rattle.ia32_types.specs.Numbers.{size};
+ghost use Rattle.ia32_semantics.specs.Operands.{number_bytes};
 ghost use Rattle.ia32_memory.specs.Mapped.{bytes_of};
 ghost use Rattle.ia32_memory.specs.Changes.{with_byte, with_bytes, filled_over, copied_over};
 

@@ -3,24 +3,17 @@ use Rattle.std.proofs.Common.{◌≡◌, ℕ, zero, suc, ◌+◌, ◌*◌, ◌^�
 use Rattle.std.specs.Prelude.{Bool, true, false, not, ◌||◌, Option, Some, None, if◌then◌else◌}
 use Rattle.std.specs.Option.{option_map}
 use Rattle.std.proofs.Math.Nat.{mul-le-mul}
-use Rattle.ia32_types.specs.declared.Width.{Width}
-use Rattle.ia32_types.specs.declared.Width.TheVariants.{B8, W16, D32}
 use Rattle.ia32_types.specs.declared.Mem.{Mem}
 use Rattle.ia32_semantics.specs.declared.flags.Flags.{Flags}
 use Rattle.ia32_semantics.specs.State.{State, bytes_at, little_endian, joined}
 use Rattle.ia32_semantics.specs.Reading.{gives, flag, ◌>>=◌, with_byte}
 use Rattle.ia32_semantics.specs.Condition.{holds, even_condition, is_less}
-use Rattle.ia32_semantics.specs.Operands.{bits, register_or_zero, address, stored_number, condition_flags, condition, no_flags}
+use Rattle.ia32_semantics.specs.Operands.{register_or_zero, address, stored_number, condition_flags, condition, no_flags}
 use Rattle.ia32_memory.specs.Mapped.{number_at}
 use Rattle.ia32_plan.specs.declared.state.Core.{Core}
 use Rattle.ia32_plan.specs.Told.{told, given_by_registers}
 use Rattle.ia32_plan.specs.Views.{state_of, addresses_on}
 use Rattle.ia32_plan.proofs.ToldLemmas.{then_told, told_bind, then_given, given_bind}
-
-pub byte_fits : (width : Width) (v : ℕ) → v < 256 → v < 2 ^ bits width
-byte_fits B8 v fits = fits
-byte_fits W16 v fits = omega arith
-byte_fits D32 v fits = omega arith
 
 pub scaled_fits : (index scale : ℕ) → index < 2 ^ 32 → scale < 2 ^ 8 → index * scale < 2 ^ 40
 scaled_fits index scale low high =

@@ -7,7 +7,7 @@ use Rattle.std.proofs.Math.Bool.{or-false}
 use Rattle.ia32_semantics.specs.State.{State, AtByte}
 use Rattle.ia32_semantics.specs.Reading.{Reading, gives, faults, register, flag, byte, choice, with_byte, outcome, asks}
 use Rattle.ia32_semantics.specs.Effects.{is_among}
-use Rattle.ia32_semantics.specs.Operands.{size}
+use Rattle.ia32_types.specs.Numbers.{size}
 use Rattle.ia32_plan.specs.declared.words.Reads.{Reads}
 use Rattle.ia32_plan.specs.declared.words.Reads.TheVariants as reads
 use Rattle.ia32_plan.specs.declared.words.Words.{Words}

@@ -1,8 +1,8 @@
 -- What a plan stands for: the effects of its entries, one after another, and its outcome. The project's own.
 use Rattle.std.specs.Prelude.{false, List, [], ◌∷◌, ◌++◌, None}
-use Rattle.ia32_types.specs.Numbers.{reg_number, flag_number}
+use Rattle.ia32_types.specs.Numbers.{reg_number, flag_number, size}
 use Rattle.ia32_semantics.specs.Effects.{Effect, Whole, High as HighPart, sets, turns, stores}
-use Rattle.ia32_semantics.specs.Operands.{size, part_of, number_bytes, flag_effects}
+use Rattle.ia32_semantics.specs.Operands.{part_of, number_bytes, flag_effects}
 use Rattle.ia32_semantics.specs.Strings.{stepped, copied, filled}
 use Rattle.ia32_semantics.specs.Rows.{halves, quotient_effects}
 use Rattle.ia32_semantics.specs.Outcome.{Outcome, Move, keeps, enters, leaves}

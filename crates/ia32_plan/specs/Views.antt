@@ -5,7 +5,7 @@ use Rattle.ia32_memory.specs.Mapped.{bytes_of}
 use Rattle.ia32_semantics.specs.State.{State}
 use Rattle.ia32_semantics.specs.Reading.{Reading}
 use Rattle.ia32_semantics.specs.Effects.{is_among}
-use Rattle.ia32_semantics.specs.Operands.{size}
+use Rattle.ia32_types.specs.Numbers.{size}
 use Rattle.ia32_plan.specs.declared.state.Core.{Core}
 use Rattle.ia32_plan.specs.declared.words.Read.{Read}
 use Rattle.ia32_plan.specs.declared.words.Reads.{Reads}

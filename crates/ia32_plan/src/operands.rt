@@ -1,15 +1,16 @@
 //! Operands: what they are, and what storing into them does.
 
 ghost use Rattle.std.specs.Prelude.{◌≡◌, ◌<◌, ◌≤◌, ◌+◌, ◌*◌, ◌^◌, Some, IfSome, option_map};
-ghost use Rattle.ia32_semantics.specs.Operands.{bits, size, register_or_zero as register_or_zero_spec, address as address_spec, stored_number as stored_number_spec, memory_value as memory_value_spec, value as value_spec, value_of as value_of_spec, address_of as address_of_spec, store as store_spec, store_to as store_to_spec, raised as raised_spec};
+ghost use Rattle.ia32_types.specs.Numbers.{size};
+ghost use Rattle.ia32_semantics.specs.Operands.{bits, register_or_zero as register_or_zero_spec, address as address_spec, stored_number as stored_number_spec, memory_value as memory_value_spec, value as value_spec, value_of as value_of_spec, address_of as address_of_spec, store as store_spec, store_to as store_to_spec, raised as raised_spec};
 ghost use Rattle.ia32_plan.specs.Plans.{entry_effects};
 ghost use Rattle.ia32_plan.specs.Told.{given_by_registers};
 ghost use Rattle.ia32_plan.specs.Views.{state_of, read_count, Tells};
 
 use crate::entries::Entry;
 use crate::state::Core;
-use crate::widths::low_part;
 use crate::words::{Read, Words};
+use ia32_alu::low_part;
 use ia32_types::{Mem, Operand, Reg, Width};
 
 /// An index times its scale.
@@ -92,7 +93,7 @@ impl Core {
     }
 
     /// What an operand is.
-    #[tactic(auto, using(crate::proofs::ToldLemmas::told_bind, crate::proofs::RowLemmas::told_address, crate::proofs::OperandLemmas::byte_fits), unfolding(ia32_semantics::specs::Operands::value))]
+    #[tactic(auto, using(crate::proofs::ToldLemmas::told_bind, crate::proofs::RowLemmas::told_address, ia32_semantics::proofs::OperandLemmas::byte_fits), unfolding(ia32_semantics::specs::Operands::value))]
     fn value(&self, width: Width, operand: &Operand, words: &mut Words) -> Option<u32>
         requires { read_count words.old.reads ≤ 1 }
         ensures tells { Tells (value_spec width operand.now) self.now words.old (λ v. v) result words.new }

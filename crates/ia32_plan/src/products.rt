@@ -11,8 +11,9 @@ ghost use Rattle.ia32_plan.specs.Views.{state_of, read_count, Tells};
 use crate::draws::settled;
 use crate::entries::{Effects, Entry, Plan};
 use crate::state::Core;
-use crate::widths::{divided, low_part, multiplied};
+use crate::widths::{divided, multiplied};
 use crate::words::Words;
+use ia32_alu::low_part;
 use ia32_semantics::{FlagOut, FlagsOut};
 use ia32_types::{Instr, Operand, Reg, Width};
 

@@ -1,7 +1,7 @@
 //! String instructions, once or ECX times.
 
 ghost use Rattle.std.specs.Prelude.{◌≡◌, Some, [], ◌∷◌, if◌then◌else◌, ◌==◌};
-ghost use Rattle.ia32_semantics.specs.Operands.{size};
+ghost use Rattle.ia32_types.specs.Numbers.{size};
 ghost use Rattle.ia32_semantics.specs.Strings.{string_effects, movs_effects, stos_effects};
 ghost use Rattle.ia32_plan.specs.Plans.{entry_effects, all_effects};
 ghost use Rattle.ia32_plan.specs.Told.{given_by_registers};

@@ -1,7 +1,7 @@
 //! Arithmetic at a width that is known only when it runs.
 
 ghost use Rattle.std.specs.Prelude.{◌≡◌, ◌<◌, ◌≤◌, ◌^◌, ◌%◌, ◌+◌};
-ghost use Rattle.ia32_semantics.specs.Operands.{bits, low_part as low_part_spec};
+ghost use Rattle.ia32_semantics.specs.Operands.{bits};
 ghost use Rattle.ia32_semantics.specs.Alu.{sign, alu_value, alu_flags};
 ghost use Rattle.ia32_semantics.specs.Shift.{shift_value, shift_flags};
 ghost use Rattle.ia32_semantics.specs.Product.{extended as extended_spec, product_low, product_high, product_flags};
@@ -10,18 +10,6 @@ ghost use Rattle.ia32_semantics.specs.Division.{division};
 use ia32_alu::{alu, divide, mul, shift};
 use ia32_semantics::FlagsOut;
 use ia32_types::{Op, Width};
-
-/// The low part of a number, as wide as told.
-pub(crate) fn low_part(width: Width, value: u32) -> u32
-    ensures value { result ≡ low_part_spec width value }
-    ensures below { result < 2 ^ bits width }
-{
-    match width {
-        Width::B8 => value % 0x100,
-        Width::W16 => value % 0x1_0000,
-        Width::D32 => value,
-    }
-}
 
 /// 2 to the width.
 fn limit(width: Width) -> u64

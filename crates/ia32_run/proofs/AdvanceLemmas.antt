@@ -9,7 +9,6 @@ use Rattle.image_map.specs.declared.region.Kind.TheVariants as kind
 use Rattle.image_map.specs.declared.region.Settings.{Settings}
 use Rattle.ia32_semantics.specs.State.{State}
 use Rattle.ia32_semantics.specs.Machine.{Occurrence}
-use Rattle.ia32_semantics.specs.Effects.{Effect, sets, turns, stores, copies, changed, all_changed}
 use Rattle.ia32_semantics.specs.Step.{Act, Executes, Answers, IsActAt, Step, completes, is_single, returns_to_halt}
 use Rattle.ia32_run.specs.declared.log.Made.{Made}
 use Rattle.ia32_run.specs.Choices.{Spreads}
@@ -20,7 +19,7 @@ more_left : (words rest left choices : List ℕ) → words ≡ choices ++ left �
 more_left words rest left choices e = ap (λ l. l ++ rest) e ∙ append_assoc choices left rest
 
 -- more words at the end are left
-spread_more : (act : Act) (s : State) (words rest left choices : List ℕ) → Spreads act s words left choices → Spreads act s (words ++ rest) (left ++ rest) choices
+pub spread_more : (act : Act) (s : State) (words rest left choices : List ℕ) → Spreads act s words left choices → Spreads act s (words ++ rest) (left ++ rest) choices
 spread_more (Executes i) s words rest left choices e = more_left words rest left choices e
 spread_more (Answers at (kind.Pure n)) s words rest left choices e = more_left words rest left choices e
 spread_more (Answers at (kind.Reader n)) s words rest left choices e = more_left words rest left choices e
@@ -81,13 +80,3 @@ pub single_is : (frames : List Activation) → (length frames == 1) ≡ is_singl
 single_is frames = ap (λ n. n == 1) (sym (length-reverse frames)) ∙ sym (single_length (reverse frames))
 
 -- -- The entry's return slot stays where it is
-
-same_slot : (es : List Effect) (s : State) → (all_changed es s).slot ≡ s.slot
-same_slot [] s = refl
-same_slot (sets part n value ∷ es) s = same_slot es (changed (sets part n value) s)
-same_slot (turns n value ∷ es) s = same_slot es (changed (turns n value) s)
-same_slot (stores a bytes ∷ es) s = same_slot es (changed (stores a bytes) s)
-same_slot (copies to from n ∷ es) s = same_slot es (changed (copies to from n) s)
-
-pub slot_stays : (image : Image) (o : Occurrence Act) → Step image o → o.after.slot ≡ o.before.slot
-slot_stays image o st = ap (λ (s : State). s.slot) st.after ∙ same_slot st.done.effects o.before

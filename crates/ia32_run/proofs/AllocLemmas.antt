@@ -19,7 +19,7 @@ use Rattle.ia32_semantics.specs.Operands.{is_set}
 use Rattle.ia32_semantics.specs.Externs.{answered, extern_row, allocator}
 use Rattle.ia32_semantics.specs.CallModel.{IsLaidOut}
 use Rattle.ia32_semantics.specs.Step.{Answers}
-use Rattle.ia32_semantics.proofs.EffectLemmas.{effects_map}
+use Rattle.ia32_semantics.proofs.EffectLemmas.{effects_map, and_right}
 use Rattle.ia32_semantics.proofs.StepLemmas.{steps_stay_laid_out}
 use Rattle.ia32_memory.specs.Mapped.{bytes_of}
 use Rattle.ia32_plan.specs.declared.state.Core.{Core}
@@ -47,14 +47,10 @@ given_go : (b : Bool) (next base : ℕ) → (if b then next else 0) ≡ base →
 given_go true next base e some = (refl, e)
 given_go false next base e some = absurd (false≢true (sym some ∙ ap (λ n. n == 0) (sym e)))
 
-both_true : (a b : Bool) → (a && b) ≡ true → b ≡ true
-both_true true b e = e
-both_true false b e = absurd (false≢true e)
-
 pub base_is_block : (blocks : List Block) (word size site base : ℕ) → base_given blocks word size ≡ base → (base == 0) ≡ false → IsBlock 0xBFF0000C blocks (record { site = site; base = base; size = size })
 base_is_block blocks word size site base is some =
     let e = given_go (is_set word && nat_le (next_base blocks + size) 0xB0000000) (next_base blocks) base is some in
-    let room : nat_le (next_base blocks + size) 0xB0000000 ≡ true = both_true (is_set word) _ e.0 in
+    let room : nat_le (next_base blocks + size) 0xB0000000 ≡ true = and_right (is_set word) _ e.0 in
     let fits : next_base blocks + size ≤ 0xB0000000 = grind (arith, nat_tests) in
     let same : next_base blocks ≡ base = e.1 in
     let low = end_low blocks in

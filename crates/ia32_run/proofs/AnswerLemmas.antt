@@ -1,10 +1,10 @@
 -- What the rows of externs read and give, where what they ask for is mapped; and that they give nothing where it isn't.
 use Rattle.std.proofs.Common.{◌≡◌, ℕ, zero, suc, ◌+◌, ◌*◌, ◌<◌, List, [], ◌∷◌, ◌++◌, length, refl, sym, ap, ◌∙◌, subst, append_assoc, arith}
 use Rattle.std.specs.Prelude.{Bool, true, false, ◌&&◌, ◌||◌, ◌==◌, Option, Some, None, is_some, option_map}
-use Rattle.std.proofs.lemmas.Bool.{false≢true}
 use Rattle.std.proofs.lemmas.Bool.Decides.{nat_tests}
 use Rattle.std.proofs.lemmas.Option.{none-some, same_Some}
 use Rattle.item_list.specs.Ranges.{within}
+use Rattle.item_list.proofs.OptionLaws.{some_there}
 use Rattle.ia32_semantics.specs.State.{State, Bytes, Location, InRegister, InFlag, AtByte, bytes_at, little_endian, joined, word_at}
 use Rattle.ia32_semantics.specs.Division.{division_flags}
 use Rattle.ia32_semantics.specs.Reading.{Reading, gives, byte, ◌>>=◌, outcome, asks, with_byte, is_register, is_byte}
@@ -155,10 +155,6 @@ rest_of test a m n all = and_right (all_among test a m) (all_among test (a + m) 
 pub both_of : (test : ℕ → Bool) (a m n : ℕ) → all_among test a m ≡ true → all_among test (a + m) n ≡ true → all_among test a (m + n) ≡ true
 both_of test a m n first rest = all_split test a m n ∙ and_from (all_among test a m) (all_among test (a + m) n) first rest
 
-there : (o : Option ℕ) → is_some o ≡ true → (b : ℕ) × (o ≡ Some b)
-there None e = absurd (false≢true e)
-there (Some b) e = (b, refl)
-
 -- the number of bytes that are mapped is there, and it is what is read
 pub record HasNumber (s : State) (n a : ℕ) : Type 0 where
   pub number : ℕ
@@ -177,7 +173,7 @@ pub has_number : (s : State) (n a : ℕ) → all_among (is_mapped s.memory) a n 
 unfolding stored_number bytes_at little_endian
 has_number s zero a mapped = record { number = 0; is = refl; reads = reads_gives s a 0 }
 has_number s (suc n) a mapped =
-    let one = there (s.memory a) (and_left (is_mapped s.memory a) _ mapped) in
+    let one = some_there (s.memory a) (and_left (is_mapped s.memory a) _ mapped) in
     let rest = has_number s n (a + 1) (and_right (is_mapped s.memory a) _ mapped) in
     record {
       number = one.0 + 256 * rest.number;

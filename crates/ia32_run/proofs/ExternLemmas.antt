@@ -1,18 +1,18 @@
 -- The rows of externs with their words: what they give, and which bytes they ask for.
 use Rattle.std.proofs.Common.{◌≡◌, ℕ, zero, suc, ◌+◌, ◌-◌, ◌*◌, ◌%◌, ◌≤◌, List, [], ◌∷◌, ◌++◌, length, replicate, refl, sym, ap, ◌∙◌, subst, append_assoc, arith}
-use Rattle.std.specs.Prelude.{Bool, true, false, ◌||◌, ◌==◌, nat_lt, if◌then◌else◌, cond, max, Option, Some, None, is_some}
-use Rattle.std.proofs.lemmas.Bool.{false≢true}
+use Rattle.std.specs.Prelude.{Bool, true, false, ◌||◌, ◌==◌, nat_lt, if◌then◌else◌, cond, max, Some}
 use Rattle.std.proofs.lemmas.Bool.Decides.{nat_tests}
 use Rattle.std.proofs.lemmas.List.{append-nil}
 use Rattle.std.proofs.lemmas.Option.{same_Some}
 use Rattle.item_list.specs.Ranges.{within}
+use Rattle.item_list.proofs.OptionLaws.{some_there}
 use Rattle.ia32_semantics.specs.State.{State, Bytes, Location, bytes_at, little_endian, word_at}
 use Rattle.ia32_semantics.specs.Reading.{Reading, gives, faults, ◌>>=◌, outcome, asks, is_register}
 use Rattle.ia32_semantics.specs.Effects.{at_byte, all_among, is_mapped, overwritten}
 use Rattle.ia32_semantics.specs.Outcome.{Outcome}
 use Rattle.ia32_semantics.specs.Operands.{stored_word, whole_register, any_word}
 use Rattle.ia32_semantics.specs.Externs.{Results, any_results, any_words, any_prefix, arguments, argument, answered, pure, allocator, filler, number_over, byte_over}
-use Rattle.ia32_semantics.proofs.EffectLemmas.{and_left, and_right}
+use Rattle.ia32_semantics.proofs.EffectLemmas.{and_left, and_right, over_byte}
 use Rattle.ia32_semantics.proofs.ReadingLemmas.{then_outcome, then_asks, outcome_bind, asks_bind}
 use Rattle.ia32_memory.specs.Mapped.{number_at}
 use Rattle.ia32_run.specs.Answers.{results_of, plain_row, plain_done, alloc_done, fill_done}
@@ -111,30 +111,16 @@ alloc_needs at s =
 
 -- -- An extern that fills
 
--- a byte after others were stored
-over_byte : (m : Bytes) (to a b : ℕ) (bytes : List ℕ) → m a ≡ Some b → overwritten m to bytes a ≡ Some (byte_over to bytes a b)
-over_byte m to a b [] is = is
-over_byte m to a b (new ∷ rest) is = go (to == a) (over_byte m (to + 1) a b rest is)
-  where
-    go : (t : Bool) → overwritten m (to + 1) rest a ≡ Some (byte_over (to + 1) rest a b)
-        → cond t (Some (new % 256)) (overwritten m (to + 1) rest a) ≡ Some (cond t (new % 256) (byte_over (to + 1) rest a b))
-    go true e = refl
-    go false e = e
-
 pub record Over (s : State) (to : ℕ) (bytes : List ℕ) (n a : ℕ) : Type 0 where
   pub number : ℕ
   pub is : number_at (overwritten s.memory to bytes) n a ≡ Some number
   pub reads : ReadsBytes (number_over to bytes n a) s [] a n number
 
-some_byte : (o : Option ℕ) → is_some o ≡ true → (b : ℕ) × (o ≡ Some b)
-some_byte None e = absurd (false≢true e)
-some_byte (Some b) e = (b, refl)
-
 pub over_is : (s : State) (to : ℕ) (bytes : List ℕ) (n a : ℕ) → all_among (is_mapped s.memory) a n ≡ true → Over s to bytes n a
 unfolding number_over bytes_at little_endian
 over_is s to bytes zero a mapped = record { number = 0; is = refl; reads = reads_gives s a 0 }
 over_is s to bytes (suc n) a mapped =
-    let one = some_byte (s.memory a) (and_left (is_mapped s.memory a) _ mapped) in
+    let one = some_there (s.memory a) (and_left (is_mapped s.memory a) _ mapped) in
     let rest = over_is s to bytes n (a + 1) (and_right (is_mapped s.memory a) _ mapped) in
     record {
       number = byte_over to bytes a one.0 + 256 * rest.number;

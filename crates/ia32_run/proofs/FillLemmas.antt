@@ -24,7 +24,7 @@ use Rattle.ia32_semantics.specs.Strings.{stepped}
 use Rattle.ia32_semantics.specs.Externs.{answered, extern_row, filler}
 use Rattle.ia32_semantics.specs.CallModel.{IsLaidOut}
 use Rattle.ia32_semantics.specs.Step.{Answers}
-use Rattle.ia32_semantics.proofs.EffectLemmas.{by_test, and_left, and_right}
+use Rattle.ia32_semantics.proofs.EffectLemmas.{by_test, and_left, and_right, all_among_same}
 use Rattle.std.proofs.lemmas.Bool.{and_from}
 use Rattle.ia32_semantics.proofs.StepLemmas.{steps_stay_laid_out}
 use Rattle.ia32_memory.specs.Mapped.{bytes_of}
@@ -75,10 +75,6 @@ of_same : (a n v x : ℕ) → is_of_bytes a (replicate n v) x ≡ is_among a n x
 of_same a zero v x = refl
 of_same a (suc n) v x = ap (λ b. a == x || b) (of_same (a + 1) n v x)
 
-all_same : (p q : ℕ → Bool) (a n : ℕ) → ((x : ℕ) → p x ≡ q x) → all_among p a n ≡ all_among q a n
-all_same p q a zero same = refl
-all_same p q a (suc n) same = ap (λ b. b && all_among p (a + 1) n) (same a) ∙ ap (λ b. q a && b) (all_same p q (a + 1) n same)
-
 over_go : (here rest whole : Bool) (v w : Option ℕ) → (here || rest) ≡ whole → cond here v (cond rest v w) ≡ cond whole v w
 over_go true rest whole v w e = ap (λ b. cond b v w) e
 over_go false rest whole v w e = ap (λ b. cond b v w) e
@@ -110,7 +106,7 @@ fill_same (suc n) a m v x low mapped =
     let more : a + 1 + n ≡ a + suc n = omega arith in
     let twice : v % 256 % 256 ≡ v % 256 = omega arith in
     ap (λ b. filled_over false 1 v n b (with_bytes m a (number_bytes 1 v)) x) (step_one a (omega arith))
-    ∙ fill_same n (a + 1) (with_bytes m a (number_bytes 1 v)) v x low_next (all_same _ (is_mapped m) (a + 1) n maps ∙ and_right (is_mapped m a) _ mapped)
+    ∙ fill_same n (a + 1) (with_bytes m a (number_bytes 1 v)) v x low_next (all_among_same _ (is_mapped m) (a + 1) n maps ∙ and_right (is_mapped m a) _ mapped)
     ∙ fill_go (a == x) (within (a + 1) (a + 1 + n) x) (within a (a + suc n) x) (Some (v % 256)) (with_bytes m a (number_bytes 1 v) x) (m x)
     (ap (λ e. a == x || within (a + 1) e x) more ∙ here_or a (a + suc n) x (omega arith))
     (λ e. let same : a ≡ x = grind (arith, nat_tests) in ap (is_mapped m) (sym same) ∙ here)

@@ -13,7 +13,7 @@ use Rattle.ia32_types.specs.declared.Flag.TheVariants.{Cf, Pf, Zf, Sf, Of, Df}
 use Rattle.ia32_types.specs.declared.sets.RegSet.{RegSet}
 use Rattle.ia32_types.specs.declared.sets.FlagSet.{FlagSet}
 use Rattle.ia32_types.specs.Numbers.{reg_number, flag_number}
-use Rattle.ia32_types.specs.Sets.{has_reg, has_flag}
+use Rattle.ia32_types.specs.Sets.{has_reg, has_flag, has_number, reg_numbers, flag_numbers}
 use Rattle.ia32_types.proofs.NumberLemmas.{each_reg, each_flag, below_eight, below_six}
 use Rattle.ia32_semantics.specs.State.{State, Location, InRegister, InFlag, AtByte, is_location}
 use Rattle.ia32_semantics.specs.Machine.{Occurrence}
@@ -26,7 +26,7 @@ use Rattle.last_writers.specs.declared.spans.Written.{Written}
 use Rattle.last_writers.specs.Writers.{writer_at}
 use Rattle.ia32_run.specs.declared.writers.Writers.{Writers}
 use Rattle.ia32_run.specs.LastWrites.{next_writer, last_writer, ReadsFrom}
-use Rattle.ia32_run.specs.Writers.{has_number, is_wanted, WroteSpans, WroteNumbers, WritesSpans, WritesNumbers, KnowsWriters, ForgetsBelow, ListsSources}
+use Rattle.ia32_run.specs.Writers.{is_wanted, WroteSpans, WroteNumbers, WritesSpans, WritesNumbers, KnowsWriters, ForgetsBelow, ListsSources}
 use Rattle.ia32_run.proofs.DependenceLemmas.{last_more}
 
 no_register : (done : Option (Outcome × List ℕ)) (s : State) (n : ℕ) → outcome_forgets done s (InRegister n) ≡ false
@@ -48,7 +48,7 @@ one_more run o l step gone wrote old new long forgot writes_it was is =
     ∙ ap (λ x. if forgets o l then None else (if writes o l then Some step else x)) was
     ∙ ap (λ k. next_writer k (last_writer run l) o l) (sym long) ∙ sym (last_more run o l)
 
-module _ (regs : RegSet) (flags : FlagSet) (step : ℕ) (p0 p1 p2 : List Written) (one : WroteNumbers regs.0 0 8 step p0 p1) (two : WroteNumbers flags.0 8 6 step p1 p2) where
+module _ (regs : RegSet) (flags : FlagSet) (step : ℕ) (p0 p1 p2 : List Written) (one : WroteNumbers (reg_numbers regs) 0 8 step p0 p1) (two : WroteNumbers (flag_numbers flags) 8 6 step p1 p2) where
   pub register_wrote : (r : Reg) → writer_at p2 (reg_number r) ≡ (if has_reg regs r then Some step else writer_at p0 (reg_number r))
   register_wrote r = each_reg (λ r. writer_at p2 (reg_number r) ≡ (if has_reg regs r then Some step else writer_at p0 (reg_number r)))
       (two 0 ∙ one 0) (two 1 ∙ one 1) (two 2 ∙ one 2) (two 3 ∙ one 3) (two 4 ∙ one 4) (two 5 ∙ one 5) (two 6 ∙ one 6) (two 7 ∙ one 7) r
@@ -63,7 +63,7 @@ module _ (regs : RegSet) (flags : FlagSet) (step : ℕ) (p0 p1 p2 : List Written
       (two 13 ∙ ap (λ o. if has_flag flags Df then Some step else o) (one 13)) f
 
 pub noted : (touched : Touched) (limit : Option ℕ) (slot step : ℕ) (old : Writers) (p1 p2 b1 b2 : List Written) (spans : List Span)
-    → WroteNumbers touched.regs.0 0 8 step old.places p1 → WroteNumbers touched.flags.0 8 6 step p1 p2
+    → WroteNumbers (reg_numbers touched.regs) 0 8 step old.places p1 → WroteNumbers (flag_numbers touched.flags) 8 6 step p1 p2
     → spans ≡ touched.bytes.items → WroteSpans spans step old.bytes b1
     → ((a : ℕ) → writer_at b2 a ≡ (if is_in_stack slot a && is_below limit a then None else writer_at b1 a))
     → (run : List (Occurrence Act)) (o : Occurrence Act) → length run ≡ step → IsTouched touched (writes o) → ForgetsBelow slot limit o → KnowsWriters old run
@@ -104,13 +104,13 @@ module _ (touched : Touched) (skip_sp : Bool) (w : Writers) (run : List (Occurre
     sym (knows.flags f) ∙ writer,
   )
 
-  pub reads_registers : WritesNumbers w.places touched.regs.0 (if skip_sp then 4 else 8) 0 8 i → ReadsFrom skip_sp run o i
-  reads_registers found = below_eight (λ k. is_wanted touched.regs.0 (if skip_sp then 4 else 8) k ≡ true → writer_at w.places (0 + k) ≡ Some i → ReadsFrom skip_sp run o i)
+  pub reads_registers : WritesNumbers w.places (reg_numbers touched.regs) (if skip_sp then 4 else 8) 0 8 i → ReadsFrom skip_sp run o i
+  reads_registers found = below_eight (λ k. is_wanted (reg_numbers touched.regs) (if skip_sp then 4 else 8) k ≡ true → writer_at w.places (0 + k) ≡ Some i → ReadsFrom skip_sp run o i)
       (from_register Eax) (from_register Ecx) (from_register Edx) (from_register Ebx) (from_register Esp) (from_register Ebp) (from_register Esi) (from_register Edi)
       found.0 found.1 found.2 found.3
 
-  pub reads_flags : WritesNumbers w.places touched.flags.0 8 8 6 i → ReadsFrom skip_sp run o i
-  reads_flags found = below_six (λ k. is_wanted touched.flags.0 8 k ≡ true → writer_at w.places (8 + k) ≡ Some i → ReadsFrom skip_sp run o i)
+  pub reads_flags : WritesNumbers w.places (flag_numbers touched.flags) 8 8 6 i → ReadsFrom skip_sp run o i
+  reads_flags found = below_six (λ k. is_wanted (flag_numbers touched.flags) 8 k ≡ true → writer_at w.places (8 + k) ≡ Some i → ReadsFrom skip_sp run o i)
       (from_flag Cf) (from_flag Pf) (from_flag Zf) (from_flag Sf) (from_flag Of) (from_flag Df)
       found.0 found.1 found.2 found.3
 
@@ -118,28 +118,28 @@ module _ (touched : Touched) (skip_sp : Bool) (w : Writers) (run : List (Occurre
   reads_bytes spans same found = (AtByte found.0, sym (is.bytes found.0) ∙ ap (λ (l : List Span). is_any l found.0) (sym same) ∙ found.1, sym (knows.bytes found.0) ∙ found.2)
 
   abbrev Found : List Span → Type 0
-  Found spans = (WritesNumbers w.places touched.regs.0 (if skip_sp then 4 else 8) 0 8 i ⊎ WritesNumbers w.places touched.flags.0 8 8 6 i) ⊎ WritesSpans w.bytes spans i
+  Found spans = (WritesNumbers w.places (reg_numbers touched.regs) (if skip_sp then 4 else 8) 0 8 i ⊎ WritesNumbers w.places (flag_numbers touched.flags) 8 8 6 i) ⊎ WritesSpans w.bytes spans i
 
   -- the numeral below 8 is that of its register
-  to_register : (r : Reg) → reg_number r < 8 → has_number touched.regs.0 (reg_number r) ≡ has_reg touched.regs r
+  to_register : (r : Reg) → reg_number r < 8 → has_number (reg_numbers touched.regs) (reg_number r) ≡ has_reg touched.regs r
       → (is_location skip_sp (InRegister (reg_number r)) && reads o (InRegister (reg_number r))) ≡ true → last_writer run (InRegister (reg_number r)) ≡ Some i
-      → WritesNumbers w.places touched.regs.0 (if skip_sp then 4 else 8) 0 8 i
+      → WritesNumbers w.places (reg_numbers touched.regs) (if skip_sp then 4 else 8) 0 8 i
   to_register r lt same read writer = (
     reg_number r,
     lt,
-    and_from (has_number touched.regs.0 (reg_number r)) (not (reg_number r == (if skip_sp then 4 else 8)))
+    and_from (has_number (reg_numbers touched.regs) (reg_number r)) (not (reg_number r == (if skip_sp then 4 else 8)))
         (same ∙ is.registers r ∙ and_right (is_location skip_sp (InRegister (reg_number r))) _ read)
         (sym (is_place skip_sp r) ∙ and_left (is_location skip_sp (InRegister (reg_number r))) _ read),
     (let zero_more : 0 + reg_number r ≡ reg_number r = omega arith in ap (λ k. writer_at w.places k) zero_more ∙ knows.registers r ∙ writer),
   )
 
-  to_flag : (f : Flag) → flag_number f < 6 → has_number touched.flags.0 (flag_number f) ≡ has_flag touched.flags f → (flag_number f == 8) ≡ false
+  to_flag : (f : Flag) → flag_number f < 6 → has_number (flag_numbers touched.flags) (flag_number f) ≡ has_flag touched.flags f → (flag_number f == 8) ≡ false
       → (is_location skip_sp (InFlag (flag_number f)) && reads o (InFlag (flag_number f))) ≡ true → last_writer run (InFlag (flag_number f)) ≡ Some i
-      → WritesNumbers w.places touched.flags.0 8 8 6 i
+      → WritesNumbers w.places (flag_numbers touched.flags) 8 8 6 i
   to_flag f lt same low read writer = (
     flag_number f,
     lt,
-    and_from (has_number touched.flags.0 (flag_number f)) (not (flag_number f == 8))
+    and_from (has_number (flag_numbers touched.flags) (flag_number f)) (not (flag_number f == 8))
         (same ∙ is.flags f ∙ and_right (is_location skip_sp (InFlag (flag_number f))) _ read) (ap not low),
     knows.flags f ∙ writer,
   )
@@ -147,12 +147,12 @@ module _ (touched : Touched) (skip_sp : Bool) (w : Writers) (run : List (Occurre
   pub found_by : (spans : List Span) → spans ≡ touched.bytes.items → ReadsFrom skip_sp run o i → Found spans
   found_by spans same (InRegister n, read, writer) =
       let low : n < 8 = (let e = and_left (nat_lt n 8) _ (and_left (is_location skip_sp (InRegister n)) _ read) in grind (arith, nat_tests)) in
-      inl (inl (below_eight (λ n. (is_location skip_sp (InRegister n) && reads o (InRegister n)) ≡ true → last_writer run (InRegister n) ≡ Some i → WritesNumbers w.places touched.regs.0 (if skip_sp then 4 else 8) 0 8 i)
+      inl (inl (below_eight (λ n. (is_location skip_sp (InRegister n) && reads o (InRegister n)) ≡ true → last_writer run (InRegister n) ≡ Some i → WritesNumbers w.places (reg_numbers touched.regs) (if skip_sp then 4 else 8) 0 8 i)
       (to_register Eax (omega arith) refl) (to_register Ecx (omega arith) refl) (to_register Edx (omega arith) refl) (to_register Ebx (omega arith) refl)
       (to_register Esp (omega arith) refl) (to_register Ebp (omega arith) refl) (to_register Esi (omega arith) refl) (to_register Edi (omega arith) refl) n low read writer))
   found_by spans same (InFlag n, read, writer) =
       let low : n < 6 = (let e = and_left (is_location skip_sp (InFlag n)) _ read in grind (arith, nat_tests)) in
-      inl (inr (below_six (λ n. (is_location skip_sp (InFlag n) && reads o (InFlag n)) ≡ true → last_writer run (InFlag n) ≡ Some i → WritesNumbers w.places touched.flags.0 8 8 6 i)
+      inl (inr (below_six (λ n. (is_location skip_sp (InFlag n) && reads o (InFlag n)) ≡ true → last_writer run (InFlag n) ≡ Some i → WritesNumbers w.places (flag_numbers touched.flags) 8 8 6 i)
       (to_flag Cf (omega arith) refl refl) (to_flag Pf (omega arith) refl refl) (to_flag Zf (omega arith) refl refl) (to_flag Sf (omega arith) refl refl) (to_flag Of (omega arith) refl refl) (to_flag Df (omega arith) refl refl) n low read writer))
   found_by spans same (AtByte a, read, writer) = inr (a, ap (λ (l : List Span). is_any l a) same ∙ is.bytes a ∙ read, knows.bytes a ∙ writer)
 
@@ -161,8 +161,8 @@ none_there xs i none e = absurd (let long : length xs ≡ 0 = ap length none in 
 
 pub listed_sources : (touched : Touched) (skip_sp : Bool) (skip : ℕ) (w : Writers) (f0 f1 f2 f3 steps : List ℕ) (spans : List Span)
     → skip ≡ (if skip_sp then 4 else 8) → f0 ≡ [] → spans ≡ touched.bytes.items
-    → ((i : ℕ) → Contains f1 i ↔ (Contains f0 i ⊎ WritesNumbers w.places touched.regs.0 skip 0 8 i))
-    → ((i : ℕ) → Contains f2 i ↔ (Contains f1 i ⊎ WritesNumbers w.places touched.flags.0 8 8 6 i))
+    → ((i : ℕ) → Contains f1 i ↔ (Contains f0 i ⊎ WritesNumbers w.places (reg_numbers touched.regs) skip 0 8 i))
+    → ((i : ℕ) → Contains f2 i ↔ (Contains f1 i ⊎ WritesNumbers w.places (flag_numbers touched.flags) 8 8 6 i))
     → ((i : ℕ) → Contains f3 i ↔ (Contains f2 i ⊎ WritesSpans w.bytes spans i))
     → IsStrictlyIncreasing steps → ((i : ℕ) → Contains steps i ↔ Contains f3 i)
     → (run : List (Occurrence Act)) (o : Occurrence Act) → IsTouched touched (reads o) → KnowsWriters w run → ListsSources skip_sp run o steps
@@ -172,12 +172,12 @@ listed_sources touched skip_sp skip w f0 f1 f2 f3 steps spans skip_is none same 
     λ e. ⊎_elim
         (λ two_. ⊎_elim
         (λ one_. ⊎_elim (λ zero_. none_there f0 i none zero_)
-        (λ regs. reads_registers touched skip_sp w run o i is knows (subst (λ k. WritesNumbers w.places touched.regs.0 k 0 8 i) skip_is regs)) ((one i).0 one_))
+        (λ regs. reads_registers touched skip_sp w run o i is knows (subst (λ k. WritesNumbers w.places (reg_numbers touched.regs) k 0 8 i) skip_is regs)) ((one i).0 one_))
         (λ flags. reads_flags touched skip_sp w run o i is knows flags) ((two i).0 two_))
         (λ bytes. reads_bytes touched skip_sp w run o i is knows spans same bytes) ((three i).0 ((all i).0 e)),
     λ from. (all i).1 ((three i).1 (⊎_elim
         (λ places. inl ((two i).1 (⊎_elim
-        (λ regs. inl ((one i).1 (inr (subst (λ k. WritesNumbers w.places touched.regs.0 k 0 8 i) (sym skip_is) regs))))
+        (λ regs. inl ((one i).1 (inr (subst (λ k. WritesNumbers w.places (reg_numbers touched.regs) k 0 8 i) (sym skip_is) regs))))
         (λ flags. inr flags) places)))
         (λ bytes. inr bytes)
         (found_by touched skip_sp w run o i is knows spans same from))),

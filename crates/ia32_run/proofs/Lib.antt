@@ -12,9 +12,9 @@ mod AllocLemmas
 mod StopLemmas
 mod FillLemmas
 mod RangeLemmas
-mod AdvanceLemmas
+pub mod AdvanceLemmas
 mod WordLemmas
 pub mod RisingLists
-mod TraceLemmas
+pub mod TraceLemmas
 pub mod OneTraceLemmas
 pub mod FaultLemmas

@@ -1,8 +1,7 @@
 -- A program has one run with given words of choice, whichever of two images of it is run that show the same.
-use Rattle.std.proofs.Common.{◌≡◌, inl, inr, ℕ, zero, suc, ◌-◌, ◌<◌, ◌≤◌, List, [], ◌∷◌, ◌++◌, length, take, drop, replicate, refl, sym, ap, ◌∙◌, subst, length-append, arith}
-use Rattle.std.specs.Prelude.{Bool, true, false, not, ◌&&◌, ◌||◌, if◌then◌else◌, slice_get, slice_index, nat_lt, Option, Some, None, is_some}
+use Rattle.std.proofs.Common.{◌≡◌, inl, inr, ℕ, zero, suc, ◌-◌, ◌<◌, List, [], ◌∷◌, ◌++◌, length, take, drop, replicate, refl, sym, ap, ◌∙◌, subst, length-append, arith}
+use Rattle.std.specs.Prelude.{Bool, true, false, not, ◌&&◌, ◌||◌, if◌then◌else◌, slice_get, slice_index, Some, None, is_some}
 use Rattle.std.proofs.lemmas.Bool.{false≢true}
-use Rattle.std.proofs.lemmas.Bool.Decides.{nat_tests}
 use Rattle.std.proofs.lemmas.Option.{none-some, same_Some}
 use mathlib.Core.Path.{fun_ext}
 use Rattle.image_map.specs.declared.image.Image.{Image}
@@ -12,12 +11,10 @@ use Rattle.image_map.specs.Names.{extern_number}
 use Rattle.image_map.specs.Queries.{byte_at, is_in_segment, is_writable}
 use Rattle.image_map.specs.Whole.{IsImage}
 use Rattle.ia32_types.specs.Spells.{Spells}
-use Rattle.ia32_fetch.proofs.FetchLaws.{fetched_begins}
-use Rattle.ia32_fetch.proofs.OneBegins.{one_begins}
 use Rattle.ia32_semantics.specs.State.{State, Bytes, Location}
 use Rattle.ia32_semantics.specs.Machine.{Occurrence}
 use Rattle.ia32_semantics.specs.Dependence.{DataDependence}
-use Rattle.ia32_semantics.specs.Fetch.{code_run, fetch_window}
+use Rattle.ia32_semantics.specs.Fetch.{code_run}
 use Rattle.ia32_semantics.specs.Reading.{outcome}
 use Rattle.ia32_semantics.specs.Effects.{Effect, sets, turns, stores, copies, is_open, is_mapped, all_among, all_of_bytes, effects_fit, byte_or_zero}
 use Rattle.ia32_semantics.specs.Outcome.{Outcome, made, is_possible, can_move}
@@ -25,6 +22,7 @@ use Rattle.ia32_semantics.specs.Outcome as out
 use Rattle.ia32_semantics.specs.Step.{Act, Executes, Answers, IsActAt, act_row, completes}
 use Rattle.ia32_semantics.specs.Ia32.{machine}
 use Rattle.ia32_semantics.proofs.EffectLemmas.{by_test}
+use Rattle.ia32_semantics.proofs.ActLaws.{acts_are}
 use Rattle.ia32_memory.specs.Changes.{with_bytes}
 use Rattle.ia32_machine.specs.Machines.{start_state}
 use Rattle.ia32_machine.proofs.WordLemmas.{more_words}
@@ -34,7 +32,6 @@ use Rattle.ia32_run.specs.declared.log.Finish.{Finish}
 use Rattle.ia32_run.specs.Choices.{Spreads, Makes, base_given, fill_byte}
 use Rattle.ia32_run.specs.Steps.{occurrence}
 use Rattle.ia32_run.specs.Traces.{finish_of, Goes, ListsDirect, TellsRun, IsTrace}
-use Rattle.ia32_run.proofs.ActLemmas.{not_fetched}
 use Rattle.ia32_run.proofs.FillLemmas.{same_front}
 use Rattle.ia32_run.proofs.RisingLists.{same_rising}
 use Rattle.ia32_run.proofs.SettledLemmas.{settled}
@@ -124,24 +121,8 @@ moved_lists i j settings skip_sp run k steps lists = record {
 
 -- -- One step
 
-not_low : (b : Bool) (x : Option ℕ) (n : ℕ) → (if b then None else x) ≡ Some n → b ≡ false
-not_low true x n e = absurd (none-some n e)
-not_low false x n e = refl
-
-extern_high : (count a n : ℕ) → extern_number count a ≡ Some n → 0x7FFFFFFF ≤ a
-unfolding extern_number
-extern_high count a n e = let high : nat_lt a 0xF0000000 ≡ false = not_low (nat_lt a 0xF0000000) _ n e in grind (arith, nat_tests)
-
-one_act : (i : Image) (settings : Settings) (a : ℕ) (x y : Act) → IsImage i → IsActAt i settings a x → IsActAt i settings a y → x ≡ y
-one_act i settings a (Executes x) (Executes y) whole p q = ap Executes (one_begins (fetch_window i a) a x y ((fetched_begins i a x).1 p) ((fetched_begins i a y).1 q))
-one_act i settings a (Executes x) (Answers at k) whole p q = not_fetched i a x whole (extern_high (length i.externs) a q.1.number q.1.stands) p
-one_act i settings a (Answers at k) (Executes x) whole p q = not_fetched i a x whole (extern_high (length i.externs) a p.1.number p.1.stands) q
-one_act i settings a (Answers at k) (Answers bt l) whole p q =
-    ap (λ n. Answers n k) (p.0 ∙ sym q.0)
-    ∙ ap (Answers bt) (same_Some k l (sym p.1.kind ∙ ap (slice_get settings.kinds) (same_Some p.1.number q.1.number (sym p.1.stands ∙ q.1.stands)) ∙ q.1.kind))
-
 -- lists with one end have one front
-cut_end : (xs ys zs : List ℕ) → xs ++ zs ≡ ys ++ zs → xs ≡ ys
+pub cut_end : (xs ys zs : List ℕ) → xs ++ zs ≡ ys ++ zs → xs ≡ ys
 cut_end xs ys zs e =
     let one = length-append xs zs in let two = length-append ys zs in let long : length (xs ++ zs) ≡ length (ys ++ zs) = ap length e in
     same_front xs ys zs zs (omega arith) e
@@ -202,18 +183,18 @@ after_settled i settings words left o m =
     (λ any. m.zeros a any ∙ sym (ap (λ b. if b then Some 0 else (made st.done o.before).memory a) any))
     (λ bound. st.memory.others a bound ∙ sym (ap (λ b. if b then Some 0 else (made st.done o.before).memory a) bound))))
 
-record OneMake (o p : Occurrence Act) (left rest : List ℕ) : Type 0 where
-  same : o ≡ p
-  left_is : left ≡ rest
+pub record OneMake (o p : Occurrence Act) (left rest : List ℕ) : Type 0 where
+  pub same : o ≡ p
+  pub left_is : left ≡ rest
 
 same_occurrence : (before before_ after after_ : State) (act act_ : Act) (choices choices_ : List ℕ) → before ≡ before_ → act ≡ act_ → choices ≡ choices_ → after ≡ after_
     → occurrence act choices before after ≡ occurrence act_ choices_ before_ after_
 same_occurrence before before_ after after_ act act_ choices choices_ b a c d =
     ap (λ x. occurrence x choices before after) a ∙ ap (λ x. occurrence act_ x before after) c ∙ ap (λ x. occurrence act_ choices_ x after) b ∙ ap (λ x. occurrence act_ choices_ before_ x) d
 
-one_make : (i : Image) (settings : Settings) (words left rest : List ℕ) (o p : Occurrence Act) → IsImage i → Makes i settings words left o → Makes i settings words rest p → o.before ≡ p.before → OneMake o p left rest
+pub one_make : (i : Image) (settings : Settings) (words left rest : List ℕ) (o p : Occurrence Act) → IsImage i → Makes i settings words left o → Makes i settings words rest p → o.before ≡ p.before → OneMake o p left rest
 one_make i settings words left rest o p whole m n start =
-    let act : o.act ≡ p.act = one_act i settings p.before.eip o.act p.act whole (subst (λ (s : State). IsActAt i settings s.eip o.act) start m.happens.act) n.happens.act in
+    let act : o.act ≡ p.act = acts_are i settings p.before.eip o.act p.act whole (subst (λ (s : State). IsActAt i settings s.eip o.act) start m.happens.act) n.happens.act in
     let row : outcome (act_row p.act) p.before o.choices ≡ Some (m.happens.step.done, [])
     = subst (λ (s : State). outcome (act_row p.act) s o.choices ≡ Some (m.happens.step.done, [])) start
     (subst (λ a. outcome (act_row a) o.before o.choices ≡ Some (m.happens.step.done, [])) act m.happens.step.row) in
@@ -274,7 +255,7 @@ list_alike [] (y ∷ ys) long same = absurd (omega arith)
 list_alike (x ∷ xs) [] long same = absurd (omega arith)
 list_alike (x ∷ xs) (y ∷ ys) long same = ap (λ z. z ∷ xs) (same 0 x y refl refl) ∙ ap (λ l. y ∷ l) (list_alike xs ys (omega arith) (λ k a b p q. same (suc k) a b p q))
 
-some_at : {A : Type 0} (xs : List A) (k : ℕ) → k < length xs → (x : A) × (slice_get xs k ≡ Some x)
+pub some_at : {A : Type 0} (xs : List A) (k : ℕ) → k < length xs → (x : A) × (slice_get xs k ≡ Some x)
 some_at [] k lt = absurd (omega arith)
 some_at (x ∷ xs) zero lt = (x, refl)
 some_at (x ∷ xs) (suc k) lt = some_at xs k (omega arith)

@@ -1,6 +1,6 @@
 -- The words of arguments, and what the machine keeps while an extern answers.
 use Rattle.std.proofs.Common.{◌≡◌, ◌⊎◌, inl, inr, ℕ, zero, suc, ◌+◌, ◌-◌, ◌*◌, ◌<◌, ◌≤◌, ◌^◌, ◌%◌, List, [], ◌∷◌, ◌++◌, length, drop, replicate, refl, sym, ap, ◌∙◌, subst, arith, length-append}
-use Rattle.std.specs.Prelude.{Bool, true, false, ◌&&◌, ◌==◌, max, slice_index, Option, Some, None, is_some, Result, Ok, Err, IfOk}
+use Rattle.std.specs.Prelude.{Bool, true, false, ◌==◌, max, slice_index, Option, Some, None, is_some, Result, Ok, Err, IfOk}
 use Rattle.std.proofs.lemmas.Bool.{false≢true}
 use Rattle.std.proofs.lemmas.Bool.Decides.{nat_tests}
 use Rattle.std.proofs.lemmas.Option.{none-some}
@@ -122,10 +122,6 @@ open_mapped image m (suc n) a e =
 pub range_end : (m : Bytes) (n a : ℕ) → AreLow (is_mapped m) → a < 2 ^ 32 → all_among (is_mapped m) a n ≡ true → a + n < 2 ^ 32
 range_end m zero a low fits mapped = omega arith
 range_end m (suc n) a low fits mapped = end_low (is_mapped m) low a (suc n) n refl mapped
-
-pub later_false : (a b : Bool) → b ≡ false → (a && b) ≡ false
-later_false true b e = e
-later_false false b e = refl
 
 all_alike : (p q : ℕ → Bool) (a n : ℕ) → ((x : ℕ) → p x ≡ q x) → all_among p a n ≡ true → all_among q a n ≡ true
 all_alike p q a zero same e = refl

@@ -11,7 +11,7 @@ use Rattle.ia32_types.specs.declared.Operand.TheVariants as operand
 use Rattle.ia32_types.specs.declared.Op.{Op}
 use Rattle.ia32_types.specs.declared.Op.TheVariants as op
 use Rattle.ia32_types.specs.declared.Instr.{Instr}
-use Rattle.ia32_types.specs.Numbers.{reg_number}
+use Rattle.ia32_types.specs.Numbers.{reg_number, size}
 use Rattle.ia32_semantics.specs.declared.flags.FlagsOut.{FlagsOut}
 use Rattle.ia32_semantics.specs.declared.flags.FlagOut.{FlagOut}
 use Rattle.ia32_semantics.specs.declared.flags.FlagOut.TheVariants as out
@@ -21,7 +21,7 @@ use Rattle.ia32_semantics.specs.State.{State}
 use Rattle.ia32_semantics.specs.Reading.{Reading, gives, faults, register, flag, byte, choice, ◌>>=◌, with_byte, outcome}
 use Rattle.ia32_semantics.specs.Effects.{Effect}
 use Rattle.ia32_semantics.specs.Outcome.{Outcome}
-use Rattle.ia32_semantics.specs.Operands.{bits, size, whole_register, flag_value, any_word, stored_number, stored_word, register_or_zero, address, memory_value, value, value_of, address_of, store, store_to, raised, any_flag, any_flags, no_flags, condition_flags, condition}
+use Rattle.ia32_semantics.specs.Operands.{bits, whole_register, flag_value, any_word, stored_number, stored_word, register_or_zero, address, memory_value, value, value_of, address_of, store, store_to, raised, any_flag, any_flags, no_flags, condition_flags, condition}
 use Rattle.ia32_semantics.specs.Strings.{string_effects, movs_effects, stos_effects, repeated}
 use Rattle.ia32_semantics.specs.Rows.{carry_in, product_undefined, dividend_halves, quotient_or_fault, immediate, extra_bytes, row, imul}
 use Rattle.ia32_semantics.proofs.ReadingLemmas.{then_outcome, outcome_bind}

@@ -128,11 +128,11 @@ next_of image settings words eight most count used slot before after writers new
       told = λ run knows. tell run one.o one.reads (one.at ∙ sym (ap (λ (b : State). b.eip) one.before_is)) knows;
     }
 
-if_none : (b : Bool) (f : Finish) → (◌≡◌ {A = Option Finish} None (if b then Some f else None)) → b ≡ false
+pub if_none : (b : Bool) (f : Finish) → (◌≡◌ {A = Option Finish} None (if b then Some f else None)) → b ≡ false
 if_none true f e = absurd (none-some f e)
 if_none false f e = refl
 
-if_some : (b : Bool) (f g : Finish) → (◌≡◌ {A = Option Finish} (Some g) (if b then Some f else None)) → (b ≡ true) × (g ≡ f)
+pub if_some : (b : Bool) (f g : Finish) → (◌≡◌ {A = Option Finish} (Some g) (if b then Some f else None)) → (b ≡ true) × (g ≡ f)
 if_some true f g e = (refl, same_Some g f e)
 if_some false f g e = absurd (none-some g (sym e))
 

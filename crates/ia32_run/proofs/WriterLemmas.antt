@@ -8,10 +8,12 @@ use Rattle.std.proofs.lemmas.List.Elements.{Contains-append_left, Contains-appen
 use Rattle.image_map.specs.declared.spans.Span.{Span}
 use Rattle.image_map.specs.Ranges.{is_any}
 use Rattle.ia32_semantics.proofs.EffectLemmas.{by_test, or_true}
+use Rattle.ia32_types.specs.declared.sets.NumberSet.{NumberSet}
+use Rattle.ia32_types.specs.Sets.{has_number}
 use Rattle.last_writers.specs.declared.spans.Written.{Written}
 use Rattle.last_writers.specs.Writers.{writer_at}
 use Rattle.item_list.specs.Ranges.{within}
-use Rattle.ia32_run.specs.Writers.{has_number, is_wanted, WroteNumbers, WritesSpans, WritesNumbers}
+use Rattle.ia32_run.specs.Writers.{is_wanted, WroteNumbers, WritesSpans, WritesNumbers}
 
 -- -- An empty range
 
@@ -85,51 +87,51 @@ add_all ws spans i old now le left k = (
 
 -- -- Numbers
 
-pub no_numbers : (bits low step : ℕ) (old : List Written) → WroteNumbers bits low 0 step old old
-no_numbers bits low step old a =
-    let none : within low (low + 0) a ≡ false = grind (arith, nat_tests) in sym (ap (λ b. if b && has_number bits (a - low) then Some step else writer_at old a) none)
+pub no_numbers : (numbers : NumberSet) (low step : ℕ) (old : List Written) → WroteNumbers numbers low 0 step old old
+no_numbers numbers low step old a =
+    let none : within low (low + 0) a ≡ false = grind (arith, nat_tests) in sym (ap (λ b. if b && has_number numbers (a - low) then Some step else writer_at old a) none)
 
-number_case : (bits low n a : ℕ) (s o : Option ℕ)
-    → (if within (low + n) (low + n + 1) a && has_number bits n then s else (if within low (low + n) a && has_number bits (a - low) then s else o))
-    ≡ (if within low (low + (n + 1)) a && has_number bits (a - low) then s else o)
-number_case bits low n a s o =
+number_case : (numbers : NumberSet) (low n a : ℕ) (s o : Option ℕ)
+    → (if within (low + n) (low + n + 1) a && has_number numbers n then s else (if within low (low + n) a && has_number numbers (a - low) then s else o))
+    ≡ (if within low (low + (n + 1)) a && has_number numbers (a - low) then s else o)
+number_case numbers low n a s o =
     by_test (within (low + n) (low + n + 1) a)
     (λ here.
     let is : a - low ≡ n = grind (arith, nat_tests) in
     let before : within low (low + n) a ≡ false = grind (arith, nat_tests) in
     let all : within low (low + (n + 1)) a ≡ true = grind (arith, nat_tests) in
-    ap (λ b. if b && has_number bits n then s else (if within low (low + n) a && has_number bits (a - low) then s else o)) here
-    ∙ ap (λ b. if has_number bits n then s else (if b && has_number bits (a - low) then s else o)) before
-    ∙ ap (λ k. if has_number bits k then s else o) (sym is)
-    ∙ ap (λ b. if b && has_number bits (a - low) then s else o) (sym all))
+    ap (λ b. if b && has_number numbers n then s else (if within low (low + n) a && has_number numbers (a - low) then s else o)) here
+    ∙ ap (λ b. if has_number numbers n then s else (if b && has_number numbers (a - low) then s else o)) before
+    ∙ ap (λ k. if has_number numbers k then s else o) (sym is)
+    ∙ ap (λ b. if b && has_number numbers (a - low) then s else o) (sym all))
     (λ off.
     let same : within low (low + n) a ≡ within low (low + (n + 1)) a = same_range low n a off in
-    ap (λ b. if b && has_number bits n then s else (if within low (low + n) a && has_number bits (a - low) then s else o)) off
-    ∙ ap (λ b. if b && has_number bits (a - low) then s else o) same)
+    ap (λ b. if b && has_number numbers n then s else (if within low (low + n) a && has_number numbers (a - low) then s else o)) off
+    ∙ ap (λ b. if b && has_number numbers (a - low) then s else o) same)
   where
     same_range : (low n a : ℕ) → within (low + n) (low + n + 1) a ≡ false → within low (low + n) a ≡ within low (low + (n + 1)) a
     same_range low n a off = by_test (within low (low + n) a)
         (λ e. let f : within low (low + (n + 1)) a ≡ true = grind (arith, nat_tests) in e ∙ sym f)
         (λ e. let f : within low (low + (n + 1)) a ≡ false = grind (arith, nat_tests) in e ∙ sym f)
 
-pub one_number : (bits low n step : ℕ) (old now next : List Written)
-    → ((a : ℕ) → writer_at next a ≡ (if within (low + n) (low + n + 1) a && has_number bits n then Some step else writer_at now a))
-    → WroteNumbers bits low n step old now → WroteNumbers bits low (n + 1) step old next
-one_number bits low n step old now next wrote before a =
-    wrote a ∙ ap (λ o. if within (low + n) (low + n + 1) a && has_number bits n then Some step else o) (before a) ∙ number_case bits low n a (Some step) (writer_at old a)
+pub one_number : (numbers : NumberSet) (low n step : ℕ) (old now next : List Written)
+    → ((a : ℕ) → writer_at next a ≡ (if within (low + n) (low + n + 1) a && has_number numbers n then Some step else writer_at now a))
+    → WroteNumbers numbers low n step old now → WroteNumbers numbers low (n + 1) step old next
+one_number numbers low n step old now next wrote before a =
+    wrote a ∙ ap (λ o. if within (low + n) (low + n + 1) a && has_number numbers n then Some step else o) (before a) ∙ number_case numbers low n a (Some step) (writer_at old a)
 
 -- the numbers added so far
-pub record AddedNumbers (ws : List Written) (bits skip low n : ℕ) (old now : List ℕ) : Type 0 where
-  pub forth : (k : ℕ) → Contains now k → (Contains old k ⊎ WritesNumbers ws bits skip low n k)
-  pub back : (k : ℕ) → (Contains old k ⊎ WritesNumbers ws bits skip low n k) → Contains now k
+pub record AddedNumbers (ws : List Written) (numbers : NumberSet) (skip low n : ℕ) (old now : List ℕ) : Type 0 where
+  pub forth : (k : ℕ) → Contains now k → (Contains old k ⊎ WritesNumbers ws numbers skip low n k)
+  pub back : (k : ℕ) → (Contains old k ⊎ WritesNumbers ws numbers skip low n k) → Contains now k
 
-pub added_none : (ws : List Written) (bits skip low : ℕ) (old : List ℕ) → AddedNumbers ws bits skip low 0 old old
-added_none ws bits skip low old = record { forth = λ k e. inl e; back = λ k e. ⊎_elim (λ was. was) (λ none. absurd (let lt : none.0 < 0 = none.1 in omega arith)) e }
+pub added_none : (ws : List Written) (numbers : NumberSet) (skip low : ℕ) (old : List ℕ) → AddedNumbers ws numbers skip low 0 old old
+added_none ws numbers skip low old = record { forth = λ k e. inl e; back = λ k e. ⊎_elim (λ was. was) (λ none. absurd (let lt : none.0 < 0 = none.1 in omega arith)) e }
 
-pub added_one : (ws : List Written) (bits skip low n : ℕ) (old now next : List ℕ)
-    → ((k : ℕ) → Contains next k ↔ (Contains now k ⊎ ((is_wanted bits skip n ≡ true) × (writer_at ws (low + n) ≡ Some k))))
-    → AddedNumbers ws bits skip low n old now → AddedNumbers ws bits skip low (n + 1) old next
-added_one ws bits skip low n old now next added before = record {
+pub added_one : (ws : List Written) (numbers : NumberSet) (skip low n : ℕ) (old now next : List ℕ)
+    → ((k : ℕ) → Contains next k ↔ (Contains now k ⊎ ((is_wanted numbers skip n ≡ true) × (writer_at ws (low + n) ≡ Some k))))
+    → AddedNumbers ws numbers skip low n old now → AddedNumbers ws numbers skip low (n + 1) old next
+added_one ws numbers skip low n old now next added before = record {
   forth = λ k e. ⊎_elim
       (λ was. ⊎_elim (λ old. inl old) (λ some. let lt : some.0 < n = some.1 in inr (some.0, omega arith, some.2, some.3)) (before.forth k was))
       (λ one. inr (n, omega arith, one.0, one.1)) ((added k).0 e);
@@ -138,7 +140,7 @@ added_one ws bits skip low n old now next added before = record {
       (λ some. by_test (nat_lt some.0 n)
       (λ lt. let low_ : some.0 < n = grind (arith, nat_tests) in (added k).1 (inl (before.back k (inr (some.0, low_, some.2, some.3)))))
       (λ ge. let up : some.0 < n + 1 = some.1 in let is : some.0 ≡ n = grind (arith, nat_tests) in
-      (added k).1 (inr (subst (λ m. (is_wanted bits skip m ≡ true) × (writer_at ws (low + m) ≡ Some k)) is (some.2, some.3)))))
+      (added k).1 (inr (subst (λ m. (is_wanted numbers skip m ≡ true) × (writer_at ws (low + m) ≡ Some k)) is (some.2, some.3)))))
       e;
 }
 

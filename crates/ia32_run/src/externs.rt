@@ -96,7 +96,7 @@ fn told(
     Ok(StepOut {
         reads: Touched {
             regs: RegSet::only(Reg::Esp),
-            flags: FlagSet(0),
+            flags: FlagSet::none(),
             bytes: read,
         },
         writes: Touched {
@@ -168,13 +168,13 @@ fn told_nothing(alloc: Global, place: u32) -> StepOut
 {
     StepOut {
         reads: Touched {
-            regs: RegSet(0),
-            flags: FlagSet(0),
+            regs: RegSet::none(),
+            flags: FlagSet::none(),
             bytes: Vec::new(alloc),
         },
         writes: Touched {
-            regs: RegSet(0),
-            flags: FlagSet(0),
+            regs: RegSet::none(),
+            flags: FlagSet::none(),
             bytes: Vec::new(alloc),
         },
         next: place,

@@ -2,7 +2,6 @@
 #![tactic(auto)]
 
 mod acts;
-mod advance;
 mod answers;
 mod externs;
 mod finish;
@@ -10,10 +9,12 @@ mod heap;
 mod laws;
 mod log;
 mod runs;
+mod stepping;
 mod writers;
 
 pub use acts::{Act, act_at};
 pub use laws::{sources_are_dependences, traces_are_runs};
-pub use log::{Finish, Occurrence, RunLog};
-pub use runs::trace;
-pub use writers::Writers;
+pub use log::{Finish, Made, Occurrence, RunLog};
+pub use runs::{eight_from, start_words, told_of, trace};
+pub use stepping::advance;
+pub use writers::{Writers, listed};

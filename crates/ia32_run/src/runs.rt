@@ -13,8 +13,8 @@ ghost use Rattle.ia32_run.specs.Acts.{AreKnown};
 ghost use Rattle.ia32_run.specs.Writers.{KnowsWriters};
 ghost use Rattle.ia32_run.specs.Traces.{eight_words, IsTrace, TellsSources};
 
-use crate::advance::advance;
 use crate::log::{Finish, Made, Occurrence, RunLog};
+use crate::stepping::advance;
 use crate::writers::Writers;
 use ia32_machine::{Machine, StepError};
 use image_map::{Image, Settings};
@@ -31,8 +31,8 @@ fn word(words: &[u32], at: usize) -> u32
     }
 }
 
-/// Eight words from one on.
-fn eight_from(words: &[u32], at: usize) -> [u32; 8]
+/// Eight words from one on; 0 behind the last.
+pub fn eight_from(words: &[u32], at: usize) -> [u32; 8]
     requires { at < 2 ^ 40 }
     ensures { result ≡ eight_words words.now at }
 {
@@ -49,7 +49,7 @@ fn eight_from(words: &[u32], at: usize) -> [u32; 8]
 }
 
 /// The first twelve words.
-fn start_words(words: &[u32]) -> [u32; 12]
+pub fn start_words(words: &[u32]) -> [u32; 12]
     ensures { (image : ImageSpec) (settings : SettingsSpec) → start_state image settings result ≡ start_state image settings words.now }
 {
     [
@@ -69,7 +69,7 @@ fn start_words(words: &[u32]) -> [u32; 12]
 }
 
 /// What is told of a step that was made, by the last writers before it.
-fn occurrence(alloc: Global, writers: &Writers, made: &Made) -> Result<Occurrence, AllocError>
+pub fn told_of(alloc: Global, writers: &Writers, made: &Made) -> Result<Occurrence, AllocError>
     ensures { IfOk result (λ told. (run : List (OccurrenceSpec Act)) (o : OccurrenceSpec Act) → IsTouched made.now.out.reads (reads o) → made.now.at ≡ stands_at o → KnowsWriters writers.now run → TellsSources run o told) }
 {
     let depends = writers.sources(alloc, &made.out.reads, false)?;
@@ -112,7 +112,7 @@ pub fn trace(
             Err(StepError::Memory) => return Err(AllocError),
             Ok(made) => made,
         };
-        told.push(occurrence(alloc, &writers, &made)?)?;
+        told.push(told_of(alloc, &writers, &made)?)?;
         writers.note(alloc, &made.out, machine.slot, count)?;
         used += made.out.used as usize;
         count += 1;

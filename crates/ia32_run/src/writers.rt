@@ -4,14 +4,16 @@ ghost use Rattle.std.specs.Prelude.{◌-◌, ◌^◌, min, List, [], ◌∷◌, 
 ghost use Rattle.std.specs.List.Sorted.{IsStrictlyIncreasing};
 ghost use Rattle.item_list.specs.Ranges.{within};
 ghost use Rattle.last_writers.specs.Writers.{writer_at};
+ghost use Rattle.ia32_types.specs.Sets.{has_number};
 ghost use Rattle.ia32_semantics.specs.Machine.{Occurrence};
 ghost use Rattle.ia32_semantics.specs.Outcome.{is_in_stack, is_below};
 ghost use Rattle.ia32_semantics.specs.Step.{Act, reads as reads_spec, writes};
 ghost use Rattle.ia32_semantics.specs.CallModel.{IsEntrySlot};
 ghost use Rattle.ia32_machine.specs.Touches.{IsTouched};
-ghost use Rattle.ia32_run.specs.Writers.{has_number as has_number_spec, is_wanted as is_wanted_spec, WroteSpans, WroteNumbers, WritesSpans, WritesNumbers, KnowsWriters, ForgetsBelow, ListsSources};
+ghost use Rattle.ia32_run.specs.Writers.{is_wanted as is_wanted_spec, WroteSpans, WroteNumbers, WritesSpans, WritesNumbers, KnowsWriters, ForgetsBelow, ListsSources};
 
 use ia32_machine::{StepOut, Touched};
+use ia32_types::NumberSet;
 use image_map::Span;
 use last_writers::LastWriters;
 use std::alloc::{AllocError, Global};
@@ -22,15 +24,6 @@ pub struct Writers {
     /// Registers at their numbers, and flags 8 higher.
     pub places: LastWriters,
     pub bytes: LastWriters,
-}
-
-/// Whether a set has a number.
-fn has_number(bits: u8, n: u32) -> bool
-    requires { n < 8 }
-    ensures { result ≡ has_number_spec bits n }
-{
-    let bit = 1 << n;
-    bits & bit == bit
 }
 
 fn write_span(
@@ -65,16 +58,16 @@ fn write_spans(
 fn write_number(
     alloc: Global,
     writers: &mut LastWriters,
-    bits: u8,
+    numbers: NumberSet,
     place: (u32, u32),
     step: u32,
 ) -> Result<(), AllocError>
     requires few { place.1 < 8 }
     requires low { place.0 ≤ 8 }
-    ensures { OnOk result ((a : ℕ) → writer_at writers.new a ≡ (if within (place.0 + place.1) (place.0 + place.1 + 1) a && has_number_spec bits place.1 then Some step else writer_at writers.old a)) }
+    ensures { OnOk result ((a : ℕ) → writer_at writers.new a ≡ (if within (place.0 + place.1) (place.0 + place.1 + 1) a && has_number numbers place.1 then Some step else writer_at writers.old a)) }
 {
     let (low, n) = place;
-    if has_number(bits, n) {
+    if numbers.has(n) {
         writers.set(alloc, low + n, low + n + 1, Some(step))?;
     }
     Ok(())
@@ -84,17 +77,17 @@ fn write_number(
 fn write_numbers(
     alloc: Global,
     writers: &mut LastWriters,
-    bits: u8,
+    numbers: NumberSet,
     range: (u32, u32),
     step: u32,
 ) -> Result<(), AllocError>
     requires low { range.0 ≤ 8 }
     requires few { range.1 ≤ 8 }
-    ensures { OnOk result (WroteNumbers bits range.0 range.1 step writers.old writers.new) }
+    ensures { OnOk result (WroteNumbers numbers range.0 range.1 step writers.old writers.new) }
 {
     let (low, count) = range;
     for n in 0..count {
-        write_number(alloc, writers, bits, (low, n), step)?;
+        write_number(alloc, writers, numbers, (low, n), step)?;
     }
     Ok(())
 }
@@ -130,18 +123,18 @@ fn add_spans(
 }
 
 /// Whether a set has a number other than one that is left out.
-fn is_wanted(bits: u8, skip: u32, n: u32) -> bool
+fn is_wanted(numbers: NumberSet, skip: u32, n: u32) -> bool
     requires { n < 8 }
-    ensures { result ≡ is_wanted_spec bits skip n }
+    ensures { result ≡ is_wanted_spec numbers skip n }
 {
-    has_number(bits, n) && n != skip
+    numbers.has(n) && n != skip
 }
 
 fn add_number(
     alloc: Global,
     found: &mut Vec<u32>,
     writers: &LastWriters,
-    set: (u8, u32),
+    set: (NumberSet, u32),
     place: (u32, u32),
 ) -> Result<(), AllocError>
     requires few { place.1 < 8 }
@@ -165,7 +158,7 @@ fn add_numbers(
     alloc: Global,
     found: &mut Vec<u32>,
     writers: &LastWriters,
-    set: (u8, u32),
+    set: (NumberSet, u32),
     range: (u32, u32),
 ) -> Result<(), AllocError>
     requires low { range.0 ≤ 8 }
@@ -180,7 +173,7 @@ fn add_numbers(
 }
 
 /// These numbers, rising and each once.
-fn listed(mut found: Vec<u32>) -> Vec<u32>
+pub fn listed(mut found: Vec<u32>) -> Vec<u32>
     ensures rising { IsStrictlyIncreasing result.items }
     ensures same { (i : ℕ) → Contains result.items i ↔ Contains found.items i }
 {
@@ -259,8 +252,14 @@ impl Writers {
         ensures { OnOk result ((run : List (Occurrence Act)) (o : Occurrence Act) → length run ≡ step → IsTouched out.now.writes (writes o) → ForgetsBelow slot out.now.forgets o → KnowsWriters self.old run → KnowsWriters self.new (run ++ o ∷ [])) }
     {
         let writes = &out.writes;
-        write_numbers(alloc, &mut self.places, writes.regs.0, (0, 8), step)?;
-        write_numbers(alloc, &mut self.places, writes.flags.0, (8, 6), step)?;
+        write_numbers(alloc, &mut self.places, writes.regs.numbers(), (0, 8), step)?;
+        write_numbers(
+            alloc,
+            &mut self.places,
+            writes.flags.numbers(),
+            (8, 6),
+            step,
+        )?;
         write_spans(alloc, &mut self.bytes, writes.bytes.as_slice(), step)?;
         forget(alloc, &mut self.bytes, slot, out.forgets)?;
         Ok(())
@@ -281,10 +280,16 @@ impl Writers {
             alloc,
             &mut found,
             &self.places,
-            (reads.regs.0, skip),
+            (reads.regs.numbers(), skip),
             (0, 8),
         )?;
-        add_numbers(alloc, &mut found, &self.places, (reads.flags.0, 8), (8, 6))?;
+        add_numbers(
+            alloc,
+            &mut found,
+            &self.places,
+            (reads.flags.numbers(), 8),
+            (8, 6),
+        )?;
         add_spans(alloc, &mut found, &self.bytes, reads.bytes.as_slice())?;
         Ok(listed(found))
     }

@@ -11,18 +11,18 @@ use Rattle.image_map.specs.Regions.{region_cmp, same_region, region_before, ends
 use Rattle.image_map.specs.TotalOrders.{region_total, cell_total}
 use Rattle.image_map.proofs.OrderLemmas.{nat_same, before-trans, before-irreflexive, before-total, same-itself}
 
-numbers : (m n : ℕ) → is_eq (nat_cmp m n) ≡ true → m ≡ n
-numbers m n h = eqb-true m n (sym (nat_same m n) ∙ h)
+pub number_equal : (m n : ℕ) → is_eq (nat_cmp m n) ≡ true → m ≡ n
+number_equal m n h = eqb-true m n (sym (nat_same m n) ∙ h)
 
 -- -- Regions
 
 pub same_region-equal : (a b : RegionId) → same_region a b ≡ true → a ≡ b
 unfolding region_cmp
 same_region-equal Global Global h = refl
-same_region-equal (Frame p) (Frame q) h = ap (λ n. Frame n) (numbers p q h)
-same_region-equal (OldFrame p) (OldFrame q) h = ap (λ n. OldFrame n) (numbers p q h)
-same_region-equal (Heap p) (Heap q) h = ap (λ n. Heap n) (numbers p q h)
-same_region-equal (OldHeap p) (OldHeap q) h = ap (λ n. OldHeap n) (numbers p q h)
+same_region-equal (Frame p) (Frame q) h = ap (λ n. Frame n) (number_equal p q h)
+same_region-equal (OldFrame p) (OldFrame q) h = ap (λ n. OldFrame n) (number_equal p q h)
+same_region-equal (Heap p) (Heap q) h = ap (λ n. Heap n) (number_equal p q h)
+same_region-equal (OldHeap p) (OldHeap q) h = ap (λ n. OldHeap n) (number_equal p q h)
 same_region-equal a b h = absurd (cc)
 
 pub same_region-itself : (a : RegionId) → same_region a a ≡ true
@@ -39,7 +39,7 @@ region_before-total a b e h = before-total region_total a b e h
 
 -- -- Cells
 
-both_tied : (o p : Ordering) → is_eq (ordering_then o p) ≡ true → (is_eq o ≡ true) × (is_eq p ≡ true)
+pub both_tied : (o p : Ordering) → is_eq (ordering_then o p) ≡ true → (is_eq o ≡ true) × (is_eq p ≡ true)
 both_tied Less p h = absurd (cc)
 both_tied Equal p h = (refl, h)
 both_tied Greater p h = absurd (cc)

@@ -3,7 +3,7 @@ use Rattle.std.proofs.Common.{◌≡◌, ◌≢◌, ℕ, zero, suc, ◌+◌, ◌
 use Rattle.std.specs.Prelude.{slice_get, slice_set, ◌==◌, is_some}
 use Rattle.std.specs.List.{find}
 use Rattle.std.specs.Option.{option_and_then}
-use Rattle.std.proofs.lemmas.Bool.{cond_both}
+use Rattle.std.proofs.lemmas.Bool.{cond_both, true≢false, and_parts, ltb-true, leb-true}
 use Rattle.std.proofs.lemmas.Bool.Decides.{nat_tests}
 use Rattle.std.proofs.lemmas.List.{length-set}
 use Rattle.std.proofs.lemmas.Option.{none-some}
@@ -14,6 +14,7 @@ use Rattle.image_map.specs.Memory.{holds, segment_at, byte_in}
 use Rattle.image_map.specs.Queries.{byte_at, is_in_segment}
 use Rattle.image_map.specs.Ranges.{is_any}
 use Rattle.image_map.specs.Shapes.{shape, shapes}
+use Rattle.image_map.specs.Whole.{IsPlaced, ArePlaced}
 
 -- -- Where a byte is known
 
@@ -40,6 +41,25 @@ head_go false s rest x = refl
 -- the memory of segments, by the first of them
 pub head_in : (s : Segment) (ss : List Segment) (x : ℕ) → byte_in (s ∷ ss) x ≡ cond (holds x s) (slice_get s.bytes (x - s.start)) (byte_in ss x)
 head_in s ss x = head_go (holds x s) s (find (holds x) ss) x
+
+-- -- Where segments lie
+
+held_below : (s : Segment) (a : ℕ) → IsPlaced s → holds a s ≡ true → a < 0x7FFFFFFF
+held_below s a placed h =
+    let both = and_parts (nat_le s.start a) (nat_lt (a - s.start) (length s.bytes)) h in
+    let low = leb-true s.start a both.0 in
+    let high = ltb-true (a - s.start) (length s.bytes) both.1 in
+    let end = placed.high in
+    omega arith
+
+below_by_test : (s : Segment) (a : ℕ) (o : Option Segment) (b : Bool) → holds a s ≡ b → IsPlaced s → (is_some o ≡ true → a < 0x7FFFFFFF) → is_some (cond b (Some s) o) ≡ true → a < 0x7FFFFFFF
+below_by_test s a o true e placed rest h = held_below s a placed e
+below_by_test s a o false e placed rest h = rest h
+
+-- an address of a segment lies below the end of images
+pub segments_below : (segments : List Segment) (a : ℕ) → ArePlaced segments → is_some (segment_at segments a) ≡ true → a < 0x7FFFFFFF
+segments_below [] a placed h = absurd (true≢false (sym h))
+segments_below (s ∷ ss) a placed h = below_by_test s a (segment_at ss a) (holds a s) refl placed.0 (segments_below ss a placed.2) h
 
 -- -- One byte is replaced
 

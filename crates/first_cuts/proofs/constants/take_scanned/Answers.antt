@@ -13,7 +13,7 @@ pub loop-passed-preserved-in-None : goal.loop-passed-preserved-in-None
 loop-passed-preserved-in-None c = (
   omega (arith, c.loop-passed-test.true),
   scan_byte c.args.image.now c.args.start c.args.count c.loop-passed.passed (c.loop-passed.passed + 1) c.loop-passed.taken.items (taken_from c.args.image.now c.args.taken.now.items (scanned c.args.image.now 0 c.args.count c.args.start))
-      c.loop-passed-test.true (sym c.in-None.is ∙ c.instruction_at.ensures) refl c.loop-passed.invariant.1,
+      c.loop-passed-test.true (sym c.in-None.is ∙ c.fetched.ensures.value) refl c.loop-passed.invariant.1,
 )
 
 pub loop-passed-preserved : goal.loop-passed-preserved
@@ -21,7 +21,7 @@ loop-passed-preserved c = (
   omega (arith, c.loop-passed-test.true, c.length_of-passed.ensures.few),
   scan_instruction c.args.image.now c.args.start c.args.count c.loop-passed.passed (c.loop-passed.passed + c.length_of-passed.result) c.length_of-passed.result c.in-Some.instr c.loop-passed.taken.items c.take_constants_in.new.taken.items
       (taken_from c.args.image.now c.args.taken.now.items (scanned c.args.image.now 0 c.args.count c.args.start))
-      c.loop-passed-test.true (sym c.in-Some.is ∙ c.instruction_at.ensures) c.length_of-passed.ensures.value refl c.in_ok-take_constants_in-in-Some.ensures c.loop-passed.invariant.1,
+      c.loop-passed-test.true (sym c.in-Some.is ∙ c.fetched.ensures.value) c.length_of-passed.ensures.value refl c.in_ok-take_constants_in-in-Some.ensures c.loop-passed.invariant.1,
 )
 
 pub returns : goal.returns

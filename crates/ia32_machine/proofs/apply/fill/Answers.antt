@@ -1,4 +1,4 @@
-use Rattle.ia32_semantics.specs.Operands.{size}
+use Rattle.ia32_types.specs.Numbers.{size}
 use Rattle.ia32_memory.specs.Mapped.{bytes_of}
 use Rattle.ia32_plan.specs.Views.{state_of}
 use Rattle.ia32_machine.proofs.PerformLemmas.{fill_state}

@@ -1,4 +1,4 @@
-use Rattle.ia32_semantics.specs.Operands.{size}
+use Rattle.ia32_types.specs.Numbers.{size}
 use Rattle.ia32_machine.proofs.CoreLemmas.{stepped_wraps}
 use Rattle.ia32_machine.proofs.apply.stepped.Goals as goal
 

@@ -1,10 +1,9 @@
 use Rattle.std.proofs.Common.{◌≡◌, sym, subst, ◌∙◌}
-use Rattle.ia32_types.specs.Numbers.{reg_number}
+use Rattle.ia32_types.specs.Numbers.{reg_number, size}
 use Rattle.ia32_types.specs.Sets.{has_reg}
 use Rattle.ia32_semantics.specs.State.{InRegister}
 use Rattle.ia32_semantics.specs.Effects.{effects_write}
 use Rattle.ia32_plan.specs.declared.entries.Entry.{Entry}
-use Rattle.ia32_semantics.specs.Operands.{size}
 use Rattle.ia32_plan.specs.Plans.{entry_effects}
 use Rattle.ia32_machine.proofs.TouchLemmas.{copied_registers, filled_registers}
 use Rattle.ia32_machine.proofs.touched.entry_registers.Goals as goal

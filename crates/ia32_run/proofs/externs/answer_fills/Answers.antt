@@ -1,4 +1,5 @@
 use Rattle.std.proofs.Common.{◌+◌, ◌*◌, ◌%◌, ◌^◌, List, sym, subst, ap, ◌∙◌, arith}
+use Rattle.std.proofs.lemmas.Bool.{and_right}
 use Rattle.std.specs.Prelude.{ℕ, false, ◌&&◌, max, reverse, slice_index}
 use Rattle.image_map.specs.declared.region.Activation.{Activation}
 use Rattle.ia32_semantics.specs.State.{State, word_at}
@@ -13,7 +14,7 @@ use Rattle.ia32_machine.proofs.PlaceLemmas.{mapped_low}
 use Rattle.ia32_run.specs.Choices.{fill_byte}
 use Rattle.ia32_run.specs.Answers.{IsToldOf}
 use Rattle.ia32_run.proofs.FillLemmas.{fill_is_done, fill_laid_out, fill_unmapped, fill_impossible}
-use Rattle.ia32_run.proofs.RangeLemmas.{range_closed, range_opened, open_mapped, later_false, Filling, filled_known, filled_maps, after_maps, after_slot, filled_place}
+use Rattle.ia32_run.proofs.RangeLemmas.{range_closed, range_opened, open_mapped, Filling, filled_known, filled_maps, after_maps, after_slot, filled_place}
 use Rattle.ia32_run.proofs.PlainLemmas.{runs_on}
 use Rattle.ia32_run.proofs.externs.answer_fills.Goals as goal
 
@@ -34,7 +35,7 @@ returns-then-not-can_move-clause-fault c = λ image at whole runs same.
     let range = c.in-Some.ensures (mapped_low image (state_of c.args.machine.now) whole runs.laid_out) in
     fill_impossible image at c.args.arguments.0 c.args.arguments.1 c.args.words.now (state_of c.args.machine.now) c.in-Some.range.0 c.in-Some.range.1 c.are_eight.ensures c.requires.0 c.requires.2
     range.0 range.1 range.2
-    (later_false (all_among (is_open image (bytes_of c.args.machine.now.core.memory)) c.in-Some.range.0 c.in-Some.range.1) (can_move (move_of calls.Left) (reverse c.args.machine.now.frames.items))
+    (and_right (all_among (is_open image (bytes_of c.args.machine.now.core.memory)) c.in-Some.range.0 c.in-Some.range.1) (can_move (move_of calls.Left) (reverse c.args.machine.now.frames.items))
     (sym (c.can_move.ensures ∙ ap (λ (l : List Activation). can_move (move_of calls.Left) (reverse l)) c.as_slice.ensures.value) ∙ c.if-not-can_move.true))
 
 pub returns-in-None-word-clause-fault : goal.returns-in-None-word-clause-fault

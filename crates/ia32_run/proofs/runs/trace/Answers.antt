@@ -33,10 +33,10 @@ returns-in-Some c =
     let more : c.run.count < c.args.steps = c.run-test.true in
     let fits : c.run.used + 8 ≤ length c.args.words.now = omega arith in
     let next = next_of c.args.image.now c.args.settings.now c.args.words.now c.eight_from-eight.result c.args.steps c.run.count c.run.used c.advance.new.machine.slot (state_of c.run.machine) (state_of c.advance.new.machine)
-    c.run.writers c.note.new.self c.in-Ok.made c.in_ok-occurrence.field-0 c.in-Ok.ensures.made c.eight_from-eight.ensures fits c.in-Ok.ensures.few more (c.run.invariant.slot ∙ sym c.in-Ok.ensures.slot)
-    c.in_ok-note.ensures c.in_ok-occurrence.ensures in
+    c.run.writers c.note.new.self c.in-Ok.made c.in_ok-told_of.field-0 c.in-Ok.ensures.made c.eight_from-eight.ensures fits c.in-Ok.ensures.few more (c.run.invariant.slot ∙ sym c.in-Ok.ensures.slot)
+    c.in_ok-note.ensures c.in_ok-told_of.ensures in
     trace_completed c.args.image.now c.args.settings.now c.args.words.now c.args.steps c.run.count c.run.used (state_of c.run.machine) (state_of c.advance.new.machine)
-    c.run.writers c.note.new.self c.in-Ok.made c.in_ok-occurrence.field-0 c.run.told c.run.invariant.kept next c.in-Some.finish c.in-Some.is c.push.new.self c.in_ok-push.ensures.ok
+    c.run.writers c.note.new.self c.in-Ok.made c.in_ok-told_of.field-0 c.run.told c.run.invariant.kept next c.in-Some.finish c.in-Some.is c.push.new.self c.in_ok-push.ensures.ok
 
 pub run-preserved : goal.run-preserved
 run-preserved c =
@@ -45,11 +45,11 @@ run-preserved c =
     let more : c.run.count < c.args.steps = c.run-test.true in
     let fits : c.run.used + 8 ≤ length c.args.words.now = omega arith in
     let next = next_of c.args.image.now c.args.settings.now c.args.words.now c.eight_from-eight.result c.args.steps c.run.count c.run.used c.advance.new.machine.slot (state_of c.run.machine) (state_of c.advance.new.machine)
-    c.run.writers c.note.new.self c.in-Ok.made c.in_ok-occurrence.field-0 c.in-Ok.ensures.made c.eight_from-eight.ensures fits c.in-Ok.ensures.few more (c.run.invariant.slot ∙ sym c.in-Ok.ensures.slot)
-    c.in_ok-note.ensures c.in_ok-occurrence.ensures in
+    c.run.writers c.note.new.self c.in-Ok.made c.in_ok-told_of.field-0 c.in-Ok.ensures.made c.eight_from-eight.ensures fits c.in-Ok.ensures.few more (c.run.invariant.slot ∙ sym c.in-Ok.ensures.slot)
+    c.in_ok-note.ensures c.in_ok-told_of.ensures in
     record {
       kept = kept_more c.args.image.now c.args.settings.now c.args.words.now c.args.steps c.run.count c.run.used (state_of c.run.machine) (state_of c.advance.new.machine)
-          c.run.writers c.note.new.self c.in-Ok.made c.in_ok-occurrence.field-0 c.run.told c.run.invariant.kept next c.in_default.is c.push.new.self c.in_ok-push.ensures.ok;
+          c.run.writers c.note.new.self c.in-Ok.made c.in_ok-told_of.field-0 c.run.told c.run.invariant.kept next c.in_default.is c.push.new.self c.in_ok-push.ensures.ok;
       runs = c.in-Ok.ensures.runs;
       slot = c.in-Ok.ensures.slot;
     }

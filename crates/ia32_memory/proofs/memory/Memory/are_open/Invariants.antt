@@ -1,5 +1,5 @@
 use Rattle.std.proofs.Common.{◌≡◌, ◌-◌}
-use Rattle.ia32_semantics.specs.Operands.{size}
+use Rattle.ia32_types.specs.Numbers.{size}
 use Rattle.ia32_memory.specs.Mapped.{is_open_at}
 use Rattle.ia32_memory.specs.Changes.{all_in_elements}
 use Rattle.ia32_memory.proofs.memory.Memory.are_open.Given as goal

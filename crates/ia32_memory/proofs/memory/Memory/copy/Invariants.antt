@@ -1,5 +1,5 @@
 use Rattle.std.proofs.Common.{◌≡◌, ◌-◌}
-use Rattle.ia32_semantics.specs.Operands.{size}
+use Rattle.ia32_types.specs.Numbers.{size}
 use Rattle.image_map.specs.Shapes.{shapes}
 use Rattle.ia32_memory.specs.Mapped.{bytes_of}
 use Rattle.ia32_memory.specs.Changes.{copied_over}

@@ -1,5 +1,5 @@
 use Rattle.std.proofs.Common.{◌+◌, ◌-◌, ◌∙◌, arith}
-use Rattle.ia32_semantics.specs.Operands.{size}
+use Rattle.ia32_types.specs.Numbers.{size}
 use Rattle.ia32_memory.specs.Mapped.{bytes_of}
 use Rattle.ia32_memory.proofs.ElementLemmas.{fill_more, fill_done}
 use Rattle.ia32_memory.proofs.memory.Memory.fill.Goals as goal

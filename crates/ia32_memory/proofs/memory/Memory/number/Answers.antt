@@ -1,6 +1,6 @@
 use Rattle.std.proofs.Common.{sym, ap, ◌∙◌}
 use Rattle.ia32_types.specs.declared.Width.{Width}
-use Rattle.ia32_semantics.specs.Operands.{size}
+use Rattle.ia32_types.specs.Numbers.{size}
 use Rattle.ia32_memory.specs.Mapped.{bytes_of, number_at}
 use Rattle.ia32_memory.proofs.ReadLemmas.{one_is}
 use Rattle.ia32_memory.proofs.memory.Memory.number.Goals as goal

@@ -1,7 +1,8 @@
 use Rattle.std.proofs.Common.{◌+◌, ap, sym, ◌∙◌}
 use Rattle.ia32_types.specs.declared.Width.{Width}
 use Rattle.ia32_semantics.specs.State.{Bytes}
-use Rattle.ia32_semantics.specs.Operands.{size, number_bytes}
+use Rattle.ia32_types.specs.Numbers.{size}
+use Rattle.ia32_semantics.specs.Operands.{number_bytes}
 use Rattle.ia32_memory.specs.Mapped.{bytes_of}
 use Rattle.ia32_memory.specs.Changes.{with_bytes}
 use Rattle.ia32_memory.proofs.ElementLemmas.{four_number}

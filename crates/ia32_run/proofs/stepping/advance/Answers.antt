@@ -5,8 +5,9 @@ use Rattle.ia32_machine.specs.declared.step.StepError.TheVariants as StepError
 use Rattle.ia32_machine.specs.Machines.{state_of}
 use Rattle.ia32_run.specs.Acts.{act_of}
 use Rattle.ia32_run.specs.Steps.{occurrence}
-use Rattle.ia32_run.proofs.AdvanceLemmas.{slot_stays, done_is_made, cant_act, single_is}
-use Rattle.ia32_run.proofs.advance.advance.Goals as goal
+use Rattle.ia32_run.proofs.AdvanceLemmas.{done_is_made, cant_act, single_is}
+use Rattle.ia32_run.proofs.stepping.advance.Goals as goal
+use Rattle.ia32_semantics.proofs.StepLemmas.{slot_stays}
 
 pub returns-in-Err-clause-fault : goal.returns-in-Err-clause-fault
 returns-in-Err-clause-fault c = λ same rest.

@@ -48,7 +48,7 @@ fn perform_act(
 }
 
 /// Makes the next step of a run with the first of eight words. After an error for want of memory the machine is of no use.
-pub(crate) fn advance(
+pub fn advance(
     machine: &mut Machine,
     alloc: Global,
     image: &Image,

@@ -3,7 +3,7 @@ use Rattle.ia32_machine.specs.Machines.{state_of}
 use Rattle.ia32_run.specs.Acts.{act_of}
 use Rattle.ia32_run.specs.Steps.{IsDone, CantBeDone}
 use Rattle.ia32_run.proofs.RangeLemmas.{if_ok, executed_is_done, fault_cant}
-use Rattle.ia32_run.proofs.advance.perform_act.Goals as goal
+use Rattle.ia32_run.proofs.stepping.perform_act.Goals as goal
 
 pub returns-in-Executes-clause-done : goal.returns-in-Executes-clause-done
 returns-in-Executes-clause-done c = λ image whole runs.
