@@ -1,0 +1,4 @@
+mod MarkLemmas
+mod SliceLemmas
+mod PlaceLemmas
+pub mod SliceLaws

@@ -1,0 +1,3 @@
+pub mod Slices
+pub mod Marks
+pub mod Laws
