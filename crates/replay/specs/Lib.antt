@@ -1,0 +1,5 @@
+pub mod Lines
+pub mod Replayed
+pub mod Steps
+pub mod Laws
+pub mod Texts
