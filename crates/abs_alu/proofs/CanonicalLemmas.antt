@@ -17,7 +17,7 @@ use Rattle.vset.specs.declared.part.Both.TheVariants.{Joined}
 use Rattle.vset.specs.Operations.{part, with_part, sum_region, difference_region, in_region, gathered, settled_or_top, add, sub}
 use Rattle.vset.specs.Values.{Values, Top, Parts, settled, says_nothing, AreCanonical, CanonicalValues, only_number}
 use Rattle.vset.proofs.MemberLemmas.{put_canonical}
-use Rattle.abs_alu.specs.Words.{number}
+use Rattle.abs_alu.specs.Words.{number, numbers}
 
 pub settled_canonical : (ps : List Part) → AreCanonical ps → CanonicalValues (settled ps)
 unfolding settled
@@ -25,6 +25,9 @@ settled_canonical ps forms = cond_both (says_nothing ps) Top (Parts ps) Canonica
 
 pub number_canonical : (z : ℤ) → FitsSigned w32 z → CanonicalValues (number z)
 number_canonical z fits = settled_canonical (part Global (one z) ∷ []) (one_canonical z fits, tt)
+
+pub numbers_canonical : (x : Interval) → IsCanonical x → CanonicalValues (numbers x)
+numbers_canonical x form = settled_canonical (part Global x ∷ []) (form, tt)
 
 pub only_canonical : (v : Values) (x : Interval) → CanonicalValues v → only_number v ≡ Some x → IsCanonical x
 only_canonical Top x forms e = cc

@@ -1,53 +1,19 @@
 -- The flags after an operation are among those that may be.
 
 use Rattle.std.proofs.Common.{◌≡◌, ℕ, ◌||◌, Bool, true, false, cond, refl, sym, ◌∙◌, ap}
-use Rattle.std.specs.Int.RustNames.{bit_or}
-use Rattle.std.proofs.Math.Bool.{or-false}
 use Rattle.ia32_types.specs.declared.Flag.{Flag}
 use Rattle.ia32_types.specs.declared.Flag.TheVariants.{Cf, Pf, Zf, Sf, Of, Df}
 use Rattle.ia32_types.specs.Numbers.{is_same_flag}
-use Rattle.ia32_types.specs.Sets.{flag_bit, has_flag}
+use Rattle.ia32_types.specs.Sets.{has_flag}
 use Rattle.ia32_types.proofs.NumberLemmas.{each_flag}
-use Rattle.ia32_types.proofs.SetLemmas.{has_bit, has_flag_of_both, has_flag_alone}
+use Rattle.ia32_types.proofs.SetLemmas.{flag_set_has}
 use Rattle.ia32_semantics.specs.declared.flags.Flags.{Flags}
 use Rattle.ia32_semantics.specs.declared.flags.FlagsOut.{FlagsOut}
 use Rattle.ia32_semantics.specs.declared.flags.FlagOut.{FlagOut}
 use Rattle.ia32_semantics.specs.declared.flags.FlagOut.TheVariants as flag
 use Rattle.vset.specs.declared.facts.AbsFlags.{AbsFlags}
-use Rattle.abs_alu.specs.Flags.{may_be, bit_if, flag_set, done_to, flags_after, after}
+use Rattle.abs_alu.specs.Flags.{may_be, done_to, flags_after, after}
 use Rattle.abs_alu.specs.Runs.{Allows, AllowsAll, IsFlagAfter, AreAfter}
-
--- -- The set of the flags that pass a test
-
-itself : (b : Bool) → cond b true false ≡ b
-itself true = refl
-itself false = refl
-
-no_bit : (x : Flag) → has_bit 0 (flag_bit x) ≡ false
-no_bit = each_flag (λ x. has_bit 0 (flag_bit x) ≡ false) refl refl refl refl refl refl
-
-same_either : (b : Bool) → b ≡ cond b true false
-same_either b = sym (itself b)
-
-has_one : (t : Bool) (g x : Flag) → has_bit (bit_if t g) (flag_bit x) ≡ cond (is_same_flag x g) t false
-has_one true g x = has_flag_alone g x ∙ same_either (is_same_flag x g)
-has_one false g x = no_bit x ∙ by_test (is_same_flag x g)
-  where
-    by_test : (b : Bool) → false ≡ cond b false false
-    by_test true = refl
-    by_test false = refl
-
-has_more : (t : Bool) (g x : Flag) (rest : ℕ) (r : Bool) → has_bit rest (flag_bit x) ≡ r → has_bit (bit_or (bit_if t g) rest) (flag_bit x) ≡ (cond (is_same_flag x g) t false || r)
-has_more t g x rest r is = has_flag_of_both (bit_if t g) rest x ∙ (λ i. has_one t g x i || is i)
-
--- a flag is in the set where it passes the test
-pub flag_set_has : (has : Flag → Bool) (x : Flag) → has_flag (flag_set has) x ≡ has x
-unfolding flag_set
-flag_set_has has x =
-    has_more (has Cf) Cf x _ _ (has_more (has Pf) Pf x _ _ (has_more (has Zf) Zf x _ _ (has_more (has Sf) Sf x _ _ (has_more (has Of) Of x _ _ (has_one (has Df) Df x)))))
-    ∙ each_flag
-    (λ x. (cond (is_same_flag x Cf) (has Cf) false || (cond (is_same_flag x Pf) (has Pf) false || (cond (is_same_flag x Zf) (has Zf) false || (cond (is_same_flag x Sf) (has Sf) false || (cond (is_same_flag x Of) (has Of) false || cond (is_same_flag x Df) (has Df) false))))) ≡ has x)
-    (or-false (has Cf)) (or-false (has Pf)) (or-false (has Zf)) (or-false (has Sf)) (or-false (has Of)) refl x
 
 -- -- One flag
 

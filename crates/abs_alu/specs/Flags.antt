@@ -1,14 +1,13 @@
 -- The flags after an operation: which may be 0, and which may be 1. The definitions are the project's own.
 
 use Rattle.std.specs.Prelude.{ℕ, ◌==◌, ◌&&◌, not, Bool, true, false, if◌then◌else◌, Option, Some, None}
-use Rattle.std.specs.Int.RustNames.{bit_or}
 use Rattle.ia32_types.specs.declared.Flag.{Flag}
 use Rattle.ia32_types.specs.declared.Flag.TheVariants.{Cf, Pf, Zf, Sf, Of, Df}
 use Rattle.ia32_types.specs.declared.sets.FlagSet.{FlagSet}
 use Rattle.ia32_types.specs.declared.Op.{Op}
 use Rattle.ia32_types.specs.declared.Op.TheVariants as op
 use Rattle.ia32_types.specs.Places.{op_flag_writes}
-use Rattle.ia32_types.specs.Sets.{flag_bit, has_flag, is_listed_flag}
+use Rattle.ia32_types.specs.Sets.{flag_set, has_flag, is_listed_flag}
 use Rattle.ia32_semantics.specs.declared.flags.FlagsOut.{FlagsOut}
 use Rattle.ia32_semantics.specs.declared.flags.FlagOut.{FlagOut}
 use Rattle.ia32_semantics.specs.declared.flags.FlagOut.TheVariants as flag
@@ -33,14 +32,6 @@ may_be (flag.Set v) value before = same v value
 may_be flag.Undefined value before = true
 
 -- -- All flags
-
-abbrev pub bit_if : Bool → Flag → ℕ
-bit_if has f = if has then flag_bit f else 0
-
--- the flags that pass a test
-unfoldable pub flag_set : (Flag → Bool) → FlagSet
-flag_set has =
-    record { 0 = bit_or (bit_if (has Cf) Cf) (bit_or (bit_if (has Pf) Pf) (bit_or (bit_if (has Zf) Zf) (bit_or (bit_if (has Sf) Sf) (bit_or (bit_if (has Of) Of) (bit_if (has Df) Df))))) }
 
 -- what is done to a flag; DF is kept
 abbrev pub done_to : FlagsOut → Flag → FlagOut

@@ -3,7 +3,7 @@
 ghost use Rattle.std.specs.Prelude.{◌≡◌};
 ghost use Rattle.ia32_alu.specs.Widths.{IsWidth};
 ghost use Rattle.ia32_semantics.specs.Alu.{kept_flags as kept_flags_spec};
-ghost use Rattle.abs_alu.specs.Flags.{same as same_spec, may_be as may_be_spec, bit_if as bit_if_spec, flags_after as flags_after_spec, after as after_spec, any_written as any_written_spec, is_shift as is_shift_spec, is_none as is_none_spec, any_if as any_if_spec, unknown_flags as unknown_flags_spec};
+ghost use Rattle.abs_alu.specs.Flags.{same as same_spec, may_be as may_be_spec, flags_after as flags_after_spec, after as after_spec, any_written as any_written_spec, is_shift as is_shift_spec, is_none as is_none_spec, any_if as any_if_spec, unknown_flags as unknown_flags_spec};
 
 use crate::operands::known;
 use ia32_semantics::{FlagOut, FlagsOut};
@@ -27,24 +27,17 @@ fn may_be(out: FlagOut, value: bool, before: bool) -> bool
     }
 }
 
-/// A flag, or no flag.
-fn only_if(has: bool, flag: Flag) -> FlagSet
-    ensures { result.0 ≡ bit_if_spec has flag }
-{
-    if has { FlagSet::only(flag) } else { FlagSet(0) }
-}
-
 /// The flags that may have a value after this, where `before` may have had it.
-#[tactic(auto, unfolding(crate::specs::Flags::flags_after, crate::specs::Flags::flag_set))]
+#[tactic(auto, unfolding(crate::specs::Flags::flags_after, ia32_types::specs::Sets::flag_set))]
 fn flags_after(out: &FlagsOut, value: bool, before: FlagSet) -> FlagSet
     ensures { result ≡ flags_after_spec out.now value before }
 {
-    let cf = only_if(may_be(out.cf, value, before.has(Flag::Cf)), Flag::Cf);
-    let pf = only_if(may_be(out.pf, value, before.has(Flag::Pf)), Flag::Pf);
-    let zf = only_if(may_be(out.zf, value, before.has(Flag::Zf)), Flag::Zf);
-    let sf = only_if(may_be(out.sf, value, before.has(Flag::Sf)), Flag::Sf);
-    let of = only_if(may_be(out.of, value, before.has(Flag::Of)), Flag::Of);
-    let df = only_if(before.has(Flag::Df), Flag::Df);
+    let cf = FlagSet::only_if(may_be(out.cf, value, before.has(Flag::Cf)), Flag::Cf);
+    let pf = FlagSet::only_if(may_be(out.pf, value, before.has(Flag::Pf)), Flag::Pf);
+    let zf = FlagSet::only_if(may_be(out.zf, value, before.has(Flag::Zf)), Flag::Zf);
+    let sf = FlagSet::only_if(may_be(out.sf, value, before.has(Flag::Sf)), Flag::Sf);
+    let of = FlagSet::only_if(may_be(out.of, value, before.has(Flag::Of)), Flag::Of);
+    let df = FlagSet::only_if(before.has(Flag::Df), Flag::Df);
     cf.with(pf.with(zf.with(sf.with(of.with(df)))))
 }
 

@@ -3,7 +3,7 @@
 ghost use Rattle.ia32_alu.specs.Widths.{IsWidth};
 
 use crate::abs;
-use ia32_types::{FlagSet, Op};
+use ia32_types::{Flag, FlagSet, Op};
 use image_map::RegionId;
 use std::alloc::{AllocError, Global};
 use std::process::Abort;
@@ -14,18 +14,31 @@ use vset::{AbsFlags, Part, ValueSet};
 /// A stride and two ends.
 type Numbers = (u32, i32, i32);
 
-/// CF, PF, ZF, SF, OF and DF.
-const ALL: FlagSet = FlagSet(63);
+/// All flags are 0.
+fn clear() -> AbsFlags {
+    AbsFlags {
+        zero: FlagSet::all(),
+        one: FlagSet::none(),
+    }
+}
 
-const CLEAR: AbsFlags = AbsFlags {
-    zero: ALL,
-    one: FlagSet(0),
-};
+/// Each flag may be either.
+fn any() -> AbsFlags {
+    AbsFlags {
+        zero: FlagSet::all(),
+        one: FlagSet::all(),
+    }
+}
 
-const ANY: AbsFlags = AbsFlags {
-    zero: ALL,
-    one: ALL,
-};
+/// The flags of a set, CF at 1, PF at 2, ZF at 4, SF at 8, OF at 16 and DF at 32.
+fn mask(set: FlagSet) -> u8 {
+    u8::from(set.has(Flag::Cf))
+        | u8::from(set.has(Flag::Pf)) << 1
+        | u8::from(set.has(Flag::Zf)) << 2
+        | u8::from(set.has(Flag::Sf)) << 3
+        | u8::from(set.has(Flag::Of)) << 4
+        | u8::from(set.has(Flag::Df)) << 5
+}
 
 fn numbers(rt: &impl Abort, (stride, lo, hi): Numbers) -> ValueSet {
     ValueSet::numbers(Si::new(stride, lo, hi).expect(rt, "an interval"))
@@ -41,16 +54,16 @@ fn outcome<const W: u32>(
 ) -> Result<(Option<Numbers>, [u8; 2]), AllocError>
     requires { IsWidth W }
 {
-    let (value, flags) = abs::<W>(alloc, &op, &numbers(rt, a), &numbers(rt, b), &CLEAR)?;
+    let (value, flags) = abs::<W>(alloc, &op, &numbers(rt, a), &numbers(rt, b), &clear())?;
     let found = value
         .only_number()
         .map(|si| (si.stride(), si.lo(), si.hi()));
-    Ok((found, [flags.zero.0, flags.one.0]))
+    Ok((found, [mask(flags.zero), mask(flags.one)]))
 }
 
 /// The value that an operation on 32 bits gives, where each flag may be either before.
 fn wide(alloc: Global, op: Op, a: &ValueSet, b: &ValueSet) -> Result<ValueSet, AllocError> {
-    let (value, _) = abs::<32>(alloc, &op, a, b, &ANY)?;
+    let (value, _) = abs::<32>(alloc, &op, a, b, &any())?;
     Ok(value)
 }
 

@@ -2,7 +2,7 @@
 
 use Rattle.std.proofs.Common.{◌≡◌, ℕ, ◌+◌, ◌-◌, ◌/◌, ◌%◌, ◌==◌, ◌<◌, ◌≤◌, ◌&&◌, ◌||◌, Bool, true, false, not, ℤ, pos, refl, sym, ◌∙◌, ap, subst, ⊎_elim, arith}
 use Rattle.std.specs.Prelude.{◌≤ℤ◌, ◌<ℤ◌, nat_lt}
-use Rattle.std.proofs.lemmas.Bool.{cond_both, cond-true, cond-false, eqb-true, eqb-false, eq-eqb, ne_eqb, ltb-true, ltb-false, or_cases, or_parts, not-true}
+use Rattle.std.proofs.lemmas.Bool.{cond_both, cond-true, cond-false, eqb-true, eqb-false, eq-eqb, ne_eqb, ltb-true, ltb-false, or_cases, or_parts, not-true, not-false}
 use Rattle.std.proofs.lemmas.Int.{ints}
 use Rattle.strided.specs.Concrete.{signed}
 use Rattle.strided.specs.Interval.{Interval, IsMember, IsCanonical}
@@ -20,10 +20,6 @@ use Rattle.abs_cmp.proofs.RowLemmas.{Keeps, equal_keeps, less_than_keeps, at_mos
 
 -- -- Conditions and their opposites
 
-not_false : (b : Bool) → not b ≡ false → b ≡ true
-not_false true e = refl
-not_false false e = cc
-
 holds_odd : (c : ℕ) (f : Flags) → c % 2 ≡ 1 → holds c f ≡ not (even_condition (c / 2) f)
 unfolding holds
 holds_odd c f e = cond-true (c % 2 == 1) _ _ (eq-eqb (c % 2) 1 e)
@@ -39,7 +35,7 @@ opposite_holds c f h =
     (λ yes.
     let odd : c % 2 ≡ 1 = eqb-true (c % 2) 1 yes in
     let half : (c - 1) / 2 ≡ c / 2 = omega arith in
-    holds_even (c - 1) f (omega arith) ∙ ap (λ n. even_condition n f) half ∙ not_false (even_condition (c / 2) f) (sym (holds_odd c f odd) ∙ h))
+    holds_even (c - 1) f (omega arith) ∙ ap (λ n. even_condition n f) half ∙ not-false (even_condition (c / 2) f) (sym (holds_odd c f odd) ∙ h))
     (λ no.
     let apart : c % 2 ≡ 1 → ⊥ = eqb-false (c % 2) 1 no in
     let even : c % 2 ≡ 0 = omega (arith, apart) in

@@ -3,13 +3,12 @@
 ghost use Rattle.std.specs.Prelude.{◌≡◌, ◌≤◌, length, take, drop, ◌++◌, [], IfOk, OnOk, int_lt};
 ghost use Rattle.std.specs.Ordering.{int_eq};
 ghost use Rattle.vset.specs.declared.part.Part.{Part};
-ghost use Rattle.vset.specs.Operations.{same_interval, same_part};
 ghost use Rattle.abs_resolve.specs.Search.{is_crowd, IsPlaceOf, begins_with as begins_with_spec};
 ghost use Rattle.abs_semantics.specs.Resolve.{interval_before, part_before, put_part, rising_onto};
 
 use std::alloc::{AllocError, Global};
 use strided::Si;
-use vset::Part;
+use vset::{Part, is_same_part};
 
 /// The most different intervals that are told of.
 const MOST_PLACES: usize = 1024;
@@ -32,12 +31,6 @@ fn is_less(a: i32, b: i32) -> bool
     a < b
 }
 
-fn is_same_interval(a: &Si, b: &Si) -> bool
-    ensures { result ≡ same_interval a.now b.now }
-{
-    a.stride() == b.stride() && is_same(a.lo(), b.lo()) && is_same(a.hi(), b.hi())
-}
-
 fn is_interval_before(a: &Si, b: &Si) -> bool
     ensures { result ≡ interval_before a.now b.now }
 {
@@ -49,12 +42,6 @@ fn is_interval_before(a: &Si, b: &Si) -> bool
     } else {
         is_less(a.lo(), b.lo())
     }
-}
-
-fn is_same_part(x: &Part, y: &Part) -> bool
-    ensures { result ≡ same_part x.now y.now }
-{
-    x.region == y.region && is_same_interval(&x.si, &y.si)
 }
 
 fn is_part_before(x: &Part, y: &Part) -> bool

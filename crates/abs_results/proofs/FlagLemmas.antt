@@ -7,15 +7,15 @@ use Rattle.ia32_types.specs.declared.Flag.TheVariants.{Cf, Pf, Zf, Sf, Of, Df}
 use Rattle.ia32_types.specs.declared.Op.{Op}
 use Rattle.ia32_types.specs.declared.Op.TheVariants as op
 use Rattle.ia32_types.specs.Numbers.{flag_number}
-use Rattle.ia32_types.specs.Sets.{has_flag}
+use Rattle.ia32_types.specs.Sets.{flag_set, has_flag}
 use Rattle.ia32_semantics.specs.declared.flags.FlagsOut.{FlagsOut}
 use Rattle.vset.specs.declared.facts.AbsFlags.{AbsFlags}
 use Rattle.vset.specs.Values.{Values, Top}
-use Rattle.abs_alu.specs.Flags.{flag_set, flags_after, flags_out, after, may_be, done_to}
+use Rattle.abs_alu.specs.Flags.{flags_after, flags_out, after, may_be, done_to}
 use Rattle.abs_alu.specs.Operands.{operands, known, known_carry, sure, with_second, takes_second, takes_carry}
 use Rattle.abs_alu.specs.Results.{value, flags, wide, narrow, computed_or}
 use Rattle.abs_alu.specs.Words.{with_carries, by_carry, carried, words}
-use Rattle.abs_alu.proofs.FlagLemmas.{flag_set_has}
+use Rattle.ia32_types.proofs.SetLemmas.{flag_set_has}
 use Rattle.abs_steps.specs.Flags.{allows, sets_of}
 
 -- -- Members

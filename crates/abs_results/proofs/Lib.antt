@@ -1,2 +1,1 @@
 pub mod FlagLemmas
-pub mod KnownLemmas

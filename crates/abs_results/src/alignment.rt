@@ -1,17 +1,15 @@
 //! An offset in an activation whose base is known modulo 16, lowered to a multiple of a power of 2.
 
-ghost use Rattle.std.specs.Prelude.{◌≡◌, ◌+◌, ◌<◌, ◌≤◌, pos, ◌+ℤ◌, IfOk, IfSome, find, Some, None};
-ghost use Rattle.std.specs.Option.{option_copied};
-ghost use Rattle.image_map.specs.Regions.{same_region};
+ghost use Rattle.std.specs.Prelude.{◌≡◌, ◌+◌, ◌<◌, ◌≤◌, pos, ◌+ℤ◌, IfOk, IfSome};
 ghost use Rattle.ia32_types.specs.declared.Op.TheVariants.{And};
 ghost use Rattle.ia32_types.specs.declared.Width.TheVariants.{D32};
 ghost use Rattle.vset.specs.Values.{only_number as only_number_spec};
-ghost use Rattle.abs_semantics.specs.States.{known_of as known_of_spec};
 ghost use Rattle.abs_steps.specs.Calls.{remainder as remainder_spec};
 ghost use Rattle.abs_steps.specs.Results.{power_of as power_of_spec, only_of, align_of as align_of_spec, lowered as lowered_spec, lowered_by as lowered_by_spec, first_of, aligned_or as aligned_or_spec};
 
 use abs_alu::number;
 use abs_semantics::Known;
+use cell_map::known_number;
 use image_map::RegionId;
 use std::alloc::{AllocError, Global};
 use vset::{Part, ValueSet};
@@ -37,30 +35,12 @@ fn only_number(v: &ValueSet) -> Option<i32>
     v.only_number()?.only()
 }
 
-/// The first entry of a region.
-fn entry_of(region: RegionId, known: &[Known]) -> Option<&Known>
-    ensures { option_copied result ≡ find (λ k. same_region k.region region) known.now }
-{
-    known.iter().find(|k| k.region == region)
-}
-
-/// What is known of a region, by the first entry.
-#[tactic(auto, using(crate::proofs::KnownLemmas::known_of_found))]
-fn known_of(region: RegionId, known: &[Known]) -> Option<u32>
-    ensures { result ≡ known_of_spec region known.now }
-{
-    match entry_of(region, known) {
-        None => None,
-        Some(k) => Some(k.number),
-    }
-}
-
 /// What the base of the newest activation leaves modulo 16.
 fn align_of(aligns: &[Known], region: RegionId) -> Option<u32>
     ensures { result ≡ align_of_spec aligns.now region }
 {
     match region {
-        RegionId::Frame(_) => known_of(region, aligns),
+        RegionId::Frame(_) => known_number(aligns, &region),
         _ => None,
     }
 }

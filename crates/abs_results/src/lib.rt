@@ -12,7 +12,7 @@ mod quotients;
 mod tests;
 
 pub use alignment::aligned_or;
-pub use conditions::{chosen_by, truth_of};
+pub use conditions::{chosen_by, may_hold, truth_of};
 pub use extensions::{any_of, known_at, sign_of, widened, word_number};
 pub use operations::{Operation, are_one_register, is_zero, keeps_flags, operated};
 pub use pointers::{bytes_of, count_of, grown, if_counted, pushed_at, risen, stepped};

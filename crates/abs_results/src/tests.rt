@@ -6,7 +6,7 @@ use crate::{
 };
 use abs_alu::number;
 use abs_semantics::Known;
-use ia32_types::{Cond, FlagSet, Op, Operand, Reg, Width};
+use ia32_types::{Cond, Flag, FlagSet, Op, Operand, Reg, Width};
 use image_map::RegionId;
 use std::alloc::AllocError;
 use std::process::Abort;
@@ -27,11 +27,19 @@ fn found(value: &ValueSet) -> Option<Numbers> {
         .map(|si| (si.stride(), si.lo(), si.hi()))
 }
 
-/// The flags of the sets may be 0, and 1.
-fn flags(zero: u8, one: u8) -> AbsFlags {
+/// DF may be 0 and may be 1.
+fn direction(zero: bool, one: bool) -> AbsFlags {
     AbsFlags {
-        zero: FlagSet(zero),
-        one: FlagSet(one),
+        zero: FlagSet::only_if(zero, Flag::Df),
+        one: FlagSet::only_if(one, Flag::Df),
+    }
+}
+
+/// CF is clear, ZF may be either, SF is set and OF clear.
+fn signed() -> AbsFlags {
+    AbsFlags {
+        zero: FlagSet::CF.with(FlagSet::ZF).with(FlagSet::OF),
+        one: FlagSet::ZF.with(FlagSet::SF),
     }
 }
 
@@ -73,8 +81,7 @@ fn extensions(rt: HostRuntime) -> Result<(), Fail> {
 
 #[test]
 fn conditions(rt: HostRuntime) -> Result<(), Fail> {
-    // CF is clear, ZF may be either, SF is set and OF clear
-    let f = flags(0b11_0101, 0b00_1100);
+    let f = signed();
     let cases = [
         (2, Some((0, 0, 0))),
         (3, Some((0, 1, 1))),
@@ -112,7 +119,7 @@ fn aligned(rt: HostRuntime) -> Result<(), Fail> {
 
 #[test]
 fn counts(rt: HostRuntime) -> Result<(), Fail> {
-    let up = flags(32, 0);
+    let up = direction(true, false);
     let cases = [
         ((0, 262_144, 262_144), true),
         ((0, 262_145, 262_145), false),
@@ -122,7 +129,7 @@ fn counts(rt: HostRuntime) -> Result<(), Fail> {
     for (count, wanted) in cases.iter() {
         assert_eq!(rt; count_of(&up, &numbers(&rt, *count), 4).is_some(), *wanted);
     }
-    assert!(rt; count_of(&flags(32, 32), &number(1), 4).is_none());
+    assert!(rt; count_of(&direction(true, true), &number(1), 4).is_none());
     Ok(())
 }
 
@@ -131,15 +138,15 @@ fn pointers(rt: HostRuntime) -> Result<(), Fail> {
     let alloc = rt.alloc();
     let at = number(100);
     assert_eq!(rt;
-        found(&stepped(alloc, &flags(32, 0), 4, &at)?),
+        found(&stepped(alloc, &direction(true, false), 4, &at)?),
         Some((0, 104, 104))
     );
     assert_eq!(rt;
-        found(&stepped(alloc, &flags(0, 32), 4, &at)?),
+        found(&stepped(alloc, &direction(false, true), 4, &at)?),
         Some((0, 96, 96))
     );
     assert_eq!(rt;
-        found(&stepped(alloc, &flags(32, 32), 4, &at)?),
+        found(&stepped(alloc, &direction(true, true), 4, &at)?),
         Some((8, 96, 104))
     );
     let count = Si::spaced(1, 0, 5);

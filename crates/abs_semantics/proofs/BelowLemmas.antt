@@ -84,7 +84,7 @@ flag_at test n e lt =
     by_number (suc (suc (suc (suc (suc zero))))) a b c d e f lt = f
     by_number (suc (suc (suc (suc (suc (suc n)))))) a b c d e f lt = absurd (omega arith)
 
-same_flag-equal : (x y : Bool) → same_flag x y ≡ true → x ≡ y
+pub same_flag-equal : (x y : Bool) → same_flag x y ≡ true → x ≡ y
 same_flag-equal true true e = refl
 same_flag-equal true false e = sym e
 same_flag-equal false true e = e

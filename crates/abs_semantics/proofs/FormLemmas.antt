@@ -6,7 +6,7 @@ use Rattle.std.proofs.lemmas.Bool.{cond_both}
 use Rattle.std.proofs.lemmas.Int.{ints}
 use Rattle.image_map.specs.declared.image.Image.{Image}
 use Rattle.image_map.specs.declared.region.Cell.{Cell}
-use Rattle.ia32_semantics.specs.Operands.{size}
+use Rattle.ia32_types.specs.Numbers.{size}
 use Rattle.ia32_semantics.specs.State.{little_endian}
 use Rattle.alocs.specs.Cells.{Division, cells_of}
 use Rattle.image_map.specs.Regions.{same_cell, cell_before}

@@ -223,13 +223,13 @@ module _ (r : RegionId) where
       by_cases true is here rest = size_has given k (sizes_of ks ls) is (sized_at_most k.number given here)
       by_cases false is here rest = size_keeps given k (sizes_of ks ls) (rest here)
 
-agreed_left : (o p : Option ℕ) (n : ℕ) → agreed o p ≡ Some n → o ≡ Some n
+pub agreed_left : (o p : Option ℕ) (n : ℕ) → agreed o p ≡ Some n → o ≡ Some n
 agreed_left None p n e = absurd (none_some n e)
 agreed_left (Some m) None n e = absurd (none_some n e)
 agreed_left (Some m) (Some k) n e =
     cond_both (m == k) (Some m) None (λ o. o ≡ Some n → Some m ≡ Some n) (λ _. λ is. is) (λ _. λ is. absurd (none_some n is)) e
 
-agreed_right : (o p : Option ℕ) (n : ℕ) → agreed o p ≡ Some n → p ≡ Some n
+pub agreed_right : (o p : Option ℕ) (n : ℕ) → agreed o p ≡ Some n → p ≡ Some n
 agreed_right None p n e = absurd (none_some n e)
 agreed_right (Some m) None n e = absurd (none_some n e)
 agreed_right (Some m) (Some k) n e =
@@ -337,3 +337,8 @@ widened_stands lane old new s co cn h =
 
 pub widened_stands_old : WidenedStandsForOld
 widened_stands_old lane old new s co cn less h = widened_stands lane old new s co cn (below_stands lane old new s less h)
+
+pub numbers_append : (xs ys into : List ℕ) → numbers_of (xs ++ ys) into ≡ numbers_of xs (numbers_of ys into)
+unfolding numbers_of
+numbers_append [] ys into = refl
+numbers_append (x ∷ xs) ys into = ap (with_number x) (numbers_append xs ys into)

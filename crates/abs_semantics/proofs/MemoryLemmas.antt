@@ -5,7 +5,8 @@ use Rattle.image_map.specs.declared.image.Image.{Image}
 use Rattle.ia32_types.specs.declared.Mem.{Mem}
 use Rattle.ia32_types.specs.declared.Width.{Width}
 use Rattle.ia32_types.specs.declared.Width.TheVariants.{B8, W16, D32}
-use Rattle.ia32_semantics.specs.Operands.{size, bits, low_part, stored_number, any_word, memory_value as memory_read}
+use Rattle.ia32_types.specs.Numbers.{size}
+use Rattle.ia32_semantics.specs.Operands.{bits, low_part, stored_number, any_word, memory_value as memory_read}
 use Rattle.ia32_semantics.specs.Reading.{Reading, gives, with_byte, outcome, ◌>>=◌}
 use Rattle.ia32_semantics.specs.State.{State, IsSized, bytes_at, little_endian, joined}
 use Rattle.ia32_semantics.proofs.ReadingLemmas.{then_outcome, outcome_bind}

@@ -9,7 +9,7 @@ use Rattle.image_map.specs.declared.image.Image.{Image}
 use Rattle.image_map.specs.declared.region.Cell.{Cell}
 use Rattle.image_map.specs.Regions.{same_region}
 use Rattle.image_map.proofs.OrderLaws.{same_region-equal, same_region-itself}
-use Rattle.ia32_semantics.specs.Operands.{size}
+use Rattle.ia32_types.specs.Numbers.{size}
 use Rattle.ia32_semantics.specs.State.{State, Bytes, bytes_at, little_endian}
 use Rattle.alocs.specs.Cells.{Division, cells_of}
 use Rattle.alocs.proofs.CellLemmas.{lt_int_lt}

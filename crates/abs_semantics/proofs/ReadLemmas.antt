@@ -59,7 +59,7 @@ both_of : (r : RegionId) (cs ds : List Cell) → AreOf r cs → AreOf r ds → A
 both_of r [] ds of rest = rest
 both_of r (c ∷ cs) ds of rest = (of.0, both_of r cs ds of.1 rest)
 
-in_region : (r : RegionId) (xs : List Extent) (cuts : List ℤ) → AreOf r (cells_in r xs cuts)
+pub in_region : (r : RegionId) (xs : List Extent) (cuts : List ℤ) → AreOf r (cells_in r xs cuts)
 in_region r [] cuts = tt
 in_region r (x ∷ xs) cuts = both_of r (cells_from r x.start cuts x.end) (cells_in r xs cuts) (from_region r x.start cuts x.end) (in_region r xs cuts)
 

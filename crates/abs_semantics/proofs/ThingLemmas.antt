@@ -66,7 +66,7 @@ not_both_own y newer newer' x x' older older' more front back ends above =
 block_holds : (y : ℕ) (x : Allocation) → x.base ≤ y → y < x.base + x.size → is_in_block y (block_of x) ≡ true
 block_holds y x low high = and_from (nat_le x.base y) (nat_lt y (x.base + x.size)) (le-leb x.base y low) (lt-ltb y (x.base + x.size) high)
 
-given_holds : (y : ℕ) (front : List Allocation) (x : Allocation) (back : List Allocation) → is_given x ≡ true → is_in_block y (block_of x) ≡ true → list_any (is_in_block y) (blocks_given (front ++ (x ∷ back))) ≡ true
+pub given_holds : (y : ℕ) (front : List Allocation) (x : Allocation) (back : List Allocation) → is_given x ≡ true → is_in_block y (block_of x) ≡ true → list_any (is_in_block y) (blocks_given (front ++ (x ∷ back))) ≡ true
 given_holds y [] x back given is = first (gives_block x) given
   where
     first : (t : Bool) → t ≡ true → list_any (is_in_block y) (map block_of (cond t (x ∷ filter gives_block back) (filter gives_block back))) ≡ true

@@ -8,9 +8,9 @@ use Rattle.ia32_types.specs.declared.Width.TheVariants.{B8, W16, D32}
 use Rattle.ia32_types.specs.declared.Mem.{Mem}
 use Rattle.ia32_types.specs.declared.Operand.{Operand}
 use Rattle.ia32_types.specs.declared.Operand.TheVariants as operand
-use Rattle.ia32_types.specs.Numbers.{reg_number}
+use Rattle.ia32_types.specs.Numbers.{reg_number, size}
 use Rattle.ia32_semantics.specs.Effects.{Part, Whole, Word, Low, High, with_part}
-use Rattle.ia32_semantics.specs.Operands.{bits, size, low_part}
+use Rattle.ia32_semantics.specs.Operands.{bits, low_part}
 use Rattle.ia32_semantics.specs.State.{put}
 use Rattle.strided.specs.Interval.{Interval, one}
 use Rattle.si_bits.specs.Operations.{low, mul, up_to}

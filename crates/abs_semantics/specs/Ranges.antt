@@ -4,7 +4,7 @@ use Rattle.std.specs.Prelude.{ℕ, zero, suc, ◌+◌, ◌*◌, ◌/◌, ◌%◌
 use Rattle.std.specs.Int.{int_gap, cast_signed, w32}
 use Rattle.image_map.specs.declared.image.Image.{Image}
 use Rattle.image_map.specs.declared.region.Cell.{Cell}
-use Rattle.ia32_semantics.specs.Operands.{size}
+use Rattle.ia32_types.specs.Numbers.{size}
 use Rattle.ia32_semantics.specs.State.{little_endian}
 use Rattle.alocs.specs.Cells.{Division, cells_of}
 use Rattle.abs_alu.specs.Words.{number}

@@ -2,7 +2,7 @@
 use Rattle.std.specs.Prelude.{◌≡◌, ◌⊎◌, ℕ, ◌+◌, ◌<◌, ◌≤◌, ◌^◌, true, List, Some, is_some}
 use Rattle.image_map.specs.declared.image.Image.{Image}
 use Rattle.ia32_semantics.specs.Effects.{is_open}
-use Rattle.ia32_semantics.specs.Operands.{size}
+use Rattle.ia32_types.specs.Numbers.{size}
 use Rattle.ia32_semantics.specs.State.{State, Bytes, bytes_at, little_endian}
 use Rattle.vset.specs.Members.{HasValue}
 use Rattle.vset.specs.Values.{Values}

@@ -19,9 +19,10 @@ use Rattle.abs_semantics.specs.declared.parts.CellValue.{CellValue}
 use Rattle.abs_semantics.specs.States.{AbsState as State}
 use Rattle.abs_semantics.specs.Joins.{same_flag, same_place, same_fact}
 use Rattle.abs_semantics.specs.Below.{flag_numbers}
+use Rattle.abs_semantics.proofs.BelowLemmas.{same_flag-equal}
 use Rattle.cell_map.specs.Lists.{same_lists, same_whole, same_known}
-use Rattle.vset.proofs.SameLemmas.{same_interval-equal}
-use Rattle.cell_map.proofs.SameLemmas.{same_lists-equal, same_lists-itself, same_whole-equal, same_whole-itself, same_known-equal, same_known-itself, same_interval-itself, same_flag-equal, same_flag-itself}
+use Rattle.vset.proofs.SameLemmas.{same_interval-equal, same_interval-itself}
+use Rattle.cell_map.proofs.SameLemmas.{same_lists-equal, same_lists-itself, same_whole-equal, same_whole-itself, same_known-equal, same_known-itself, same_flag-itself}
 use Rattle.abs_state.specs.declared.state.AbsState.{AbsState}
 use Rattle.abs_state.specs.Registers.{register_in}
 use Rattle.abs_state.specs.Same.{same_flag_of, same_facts, same_numbers, same_lists_of, same_but_values}

@@ -1,9 +1,6 @@
 -- Flags of two sets, by number.
 use Rattle.std.proofs.Common.{◌≡◌, ℕ, zero, suc, ◌<◌, ◌≤◌, ◌==◌, Bool, true, false, cond, not, ◌||◌, ◌&&◌, refl, sym, ◌∙◌, ap, arith}
 use Rattle.std.specs.Prelude.{nat_lt}
-use Rattle.std.specs.Int.RustNames.{bit_and}
-use Rattle.std.specs.Int.Bits.{and_zero_r}
-use Rattle.std.proofs.lemmas.Nat.{and_assoc}
 use Rattle.std.proofs.lemmas.Bool.{le-ltb, ne_eqb}
 use Rattle.ia32_types.specs.declared.Flag.{Flag}
 use Rattle.ia32_types.specs.declared.Flag.TheVariants.{Cf, Pf, Zf, Sf, Of, Df}
@@ -16,49 +13,26 @@ use Rattle.abs_state.specs.Views.{flag_in}
 
 -- -- Parts of sets
 
-masked : (n mask bit : ℕ) → (bit_and (bit_and n mask) bit == bit) ≡ (bit_and n (bit_and mask bit) == bit)
-masked n mask bit = ap (λ x. x == bit) (and_assoc bit n mask)
+but : (h d : Bool) → (h && not d) ≡ cond d false h
+but true true = refl
+but true false = refl
+but false true = refl
+but false false = refl
 
-nothing : (n bit : ℕ) → (bit_and n 0 == bit) ≡ (0 == bit)
-nothing n bit = ap (λ x. x == bit) (and_zero_r n)
+alone : (h d : Bool) → (h && d) ≡ cond d h false
+alone true true = refl
+alone true false = refl
+alone false true = refl
+alone false false = refl
 
-pub has_five : (r f : FlagSet) → r.0 ≡ bit_and f.0 31 → (x : Flag) → has_flag r x ≡ cond (is_same_flag x Df) false (has_flag f x)
-has_five r f is Cf = ap (λ n. bit_and n 1 == 1) is ∙ masked f.0 31 1
-has_five r f is Pf = ap (λ n. bit_and n 2 == 2) is ∙ masked f.0 31 2
-has_five r f is Zf = ap (λ n. bit_and n 4 == 4) is ∙ masked f.0 31 4
-has_five r f is Sf = ap (λ n. bit_and n 8 == 8) is ∙ masked f.0 31 8
-has_five r f is Of = ap (λ n. bit_and n 16 == 16) is ∙ masked f.0 31 16
-has_five r f is Df = ap (λ n. bit_and n 32 == 32) is ∙ masked f.0 31 32 ∙ nothing f.0 32
+-- the five of a set, and DF of it
+pub has_five : (r five f : FlagSet) → ((x : Flag) → has_flag five x ≡ not (is_same_flag x Df)) → ((x : Flag) → has_flag r x ≡ (has_flag f x && has_flag five x))
+    → (x : Flag) → has_flag r x ≡ cond (is_same_flag x Df) false (has_flag f x)
+has_five r five f are is x = is x ∙ ap (λ t. has_flag f x && t) (are x) ∙ but (has_flag f x) (is_same_flag x Df)
 
-pub has_direction : (r f : FlagSet) → r.0 ≡ bit_and f.0 32 → (x : Flag) → has_flag r x ≡ cond (is_same_flag x Df) (has_flag f x) false
-has_direction r f is Cf = ap (λ n. bit_and n 1 == 1) is ∙ masked f.0 32 1 ∙ nothing f.0 1
-has_direction r f is Pf = ap (λ n. bit_and n 2 == 2) is ∙ masked f.0 32 2 ∙ nothing f.0 2
-has_direction r f is Zf = ap (λ n. bit_and n 4 == 4) is ∙ masked f.0 32 4 ∙ nothing f.0 4
-has_direction r f is Sf = ap (λ n. bit_and n 8 == 8) is ∙ masked f.0 32 8 ∙ nothing f.0 8
-has_direction r f is Of = ap (λ n. bit_and n 16 == 16) is ∙ masked f.0 32 16 ∙ nothing f.0 16
-has_direction r f is Df = ap (λ n. bit_and n 32 == 32) is ∙ masked f.0 32 32
-
-pub known_five : (x : Flag) → has_flag (record { 0 = 31 }) x ≡ not (is_same_flag x Df)
-known_five Cf = refl
-known_five Pf = refl
-known_five Zf = refl
-known_five Sf = refl
-known_five Of = refl
-known_five Df = refl
-
-pub has_known_direction : (has : Bool) (r : FlagSet) → r.0 ≡ cond has 32 0 → (x : Flag) → has_flag r x ≡ (is_same_flag x Df && has)
-has_known_direction true r is Cf = ap (λ n. bit_and n 1 == 1) is
-has_known_direction true r is Pf = ap (λ n. bit_and n 2 == 2) is
-has_known_direction true r is Zf = ap (λ n. bit_and n 4 == 4) is
-has_known_direction true r is Sf = ap (λ n. bit_and n 8 == 8) is
-has_known_direction true r is Of = ap (λ n. bit_and n 16 == 16) is
-has_known_direction true r is Df = ap (λ n. bit_and n 32 == 32) is
-has_known_direction false r is Cf = ap (λ n. bit_and n 1 == 1) is
-has_known_direction false r is Pf = ap (λ n. bit_and n 2 == 2) is
-has_known_direction false r is Zf = ap (λ n. bit_and n 4 == 4) is
-has_known_direction false r is Sf = ap (λ n. bit_and n 8 == 8) is
-has_known_direction false r is Of = ap (λ n. bit_and n 16 == 16) is
-has_known_direction false r is Df = ap (λ n. bit_and n 32 == 32) is
+pub has_direction : (r df f : FlagSet) → ((x : Flag) → has_flag df x ≡ is_same_flag x Df) → ((x : Flag) → has_flag r x ≡ (has_flag f x && has_flag df x))
+    → (x : Flag) → has_flag r x ≡ cond (is_same_flag x Df) (has_flag f x) false
+has_direction r df f are is x = is x ∙ ap (λ t. has_flag f x && t) (are x) ∙ alone (has_flag f x) (is_same_flag x Df)
 
 -- -- The five and DF
 
@@ -101,26 +75,27 @@ five_are r f g zeros ones = λ i n t. point n t i
     point n false = split_number r.zero f.zero g.zero zeros n
 
 -- any of the five, and DF of a set
-pub any_split : (r b g : FlagSet) → ((x : Flag) → has_flag r x ≡ (has_flag (record { 0 = 31 }) x || has_flag b x)) → ((x : Flag) → has_flag b x ≡ cond (is_same_flag x Df) (has_flag g x) false)
+pub any_split : (r five b g : FlagSet) → ((x : Flag) → has_flag five x ≡ not (is_same_flag x Df)) → ((x : Flag) → has_flag r x ≡ (has_flag five x || has_flag b x)) → ((x : Flag) → has_flag b x ≡ cond (is_same_flag x Df) (has_flag g x) false)
     → (n : ℕ) → cond (nat_lt n 6) (has_flag r (flag_of n)) true ≡ cond (nat_lt n 5) true (cond (nat_lt n 6) (has_flag g (flag_of n)) true)
-any_split r b g both second zero = both Cf
-any_split r b g both second (suc zero) = both Pf
-any_split r b g both second (suc (suc zero)) = both Zf
-any_split r b g both second (suc (suc (suc zero))) = both Sf
-any_split r b g both second (suc (suc (suc (suc zero)))) = both Of
-any_split r b g both second (suc (suc (suc (suc (suc zero))))) = both Df ∙ second Df
-any_split r b g both second (suc (suc (suc (suc (suc (suc n)))))) =
+any_split r five b g are both second zero = both Cf ∙ ap (λ t. t || has_flag b Cf) (are Cf)
+any_split r five b g are both second (suc zero) = both Pf ∙ ap (λ t. t || has_flag b Pf) (are Pf)
+any_split r five b g are both second (suc (suc zero)) = both Zf ∙ ap (λ t. t || has_flag b Zf) (are Zf)
+any_split r five b g are both second (suc (suc (suc zero))) = both Sf ∙ ap (λ t. t || has_flag b Sf) (are Sf)
+any_split r five b g are both second (suc (suc (suc (suc zero)))) = both Of ∙ ap (λ t. t || has_flag b Of) (are Of)
+any_split r five b g are both second (suc (suc (suc (suc (suc zero))))) = both Df ∙ ap (λ t. t || has_flag b Df) (are Df) ∙ second Df
+any_split r five b g are both second (suc (suc (suc (suc (suc (suc n)))))) =
     let m = suc (suc (suc (suc (suc (suc n))))) in
     ap (λ t. cond t (has_flag r (flag_of m)) true) (beyond m 6 (omega arith))
     ∙ sym (λ i. cond (beyond m 5 (omega arith) i) true (cond (beyond m 6 (omega arith) i) (has_flag g (flag_of m)) true))
 
-pub any_five_are : (r g : AbsFlags) (b c : FlagSet) → ((x : Flag) → has_flag r.zero x ≡ (has_flag (record { 0 = 31 }) x || has_flag b x)) → ((x : Flag) → has_flag b x ≡ cond (is_same_flag x Df) (has_flag g.zero x) false)
-    → ((x : Flag) → has_flag r.one x ≡ (has_flag (record { 0 = 31 }) x || has_flag c x)) → ((x : Flag) → has_flag c x ≡ cond (is_same_flag x Df) (has_flag g.one x) false) → flag_in r ≡ any_five (flag_in g)
-any_five_are r g b c zeros zero-df ones one-df = λ i n t. point n t i
+pub any_five_are : (r g : AbsFlags) (five b also c : FlagSet) → ((x : Flag) → has_flag five x ≡ not (is_same_flag x Df)) → ((x : Flag) → has_flag also x ≡ not (is_same_flag x Df))
+    → ((x : Flag) → has_flag r.zero x ≡ (has_flag five x || has_flag b x)) → ((x : Flag) → has_flag b x ≡ cond (is_same_flag x Df) (has_flag g.zero x) false)
+    → ((x : Flag) → has_flag r.one x ≡ (has_flag also x || has_flag c x)) → ((x : Flag) → has_flag c x ≡ cond (is_same_flag x Df) (has_flag g.one x) false) → flag_in r ≡ any_five (flag_in g)
+any_five_are r g five b also c are also_are zeros zero-df ones one-df = λ i n t. point n t i
   where
     point : (n : ℕ) (t : Bool) → flag_in r n t ≡ any_five (flag_in g) n t
-    point n true = any_split r.one c g.one ones one-df n
-    point n false = any_split r.zero b g.zero zeros zero-df n
+    point n true = any_split r.one also c g.one also_are ones one-df n
+    point n false = any_split r.zero five b g.zero are zeros zero-df n
 
 -- the five of a set, and DF that is known
 pub known_split : (r a b f : FlagSet) (has : Bool) → ((x : Flag) → has_flag r x ≡ (has_flag a x || has_flag b x)) → ((x : Flag) → has_flag a x ≡ cond (is_same_flag x Df) false (has_flag f x))

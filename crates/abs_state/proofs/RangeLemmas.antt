@@ -1,7 +1,7 @@
 -- Ranges of many bytes: where they end, and what they leave.
 use Rattle.std.proofs.Common.{◌≡◌, ◌≤◌, ℕ, ◌+◌, ◌*◌, ◌/◌, ◌%◌, ◌^◌, ◌⊎◌, inl, inr, Bool, true, false, cond, ◌&&◌, ◌||◌, List, [], ◌∷◌, ◌++◌, Option, Some, None, append-nil, refl, sym, ◌∙◌, ap, subst, ⊎_elim, arith}
 use Rattle.std.specs.Prelude.{ℤ, pos, negsuc, ◌≤ℤ◌, ◌<ℤ◌, ◌+ℤ◌, ◌↔◌, int_le, int_lt, nat_lt, filter, length, map, Contains, find, IfSome}
-use Rattle.std.proofs.lemmas.Bool.{cond_both, cond-true, cond-false, cases_Bool, true≢false, and_parts}
+use Rattle.std.proofs.lemmas.Bool.{cond_both, cond-true, cond-false, cases_Bool, true≢false, and_parts, or_left}
 use Rattle.std.proofs.lemmas.Int.{ints}
 use Rattle.std.proofs.lemmas.Option.{none-some, same_Some}
 use Rattle.std.specs.Cmp.{signed_Decides}
@@ -15,6 +15,7 @@ use Rattle.image_map.specs.declared.region.RegionId.TheVariants.{Global, Frame, 
 use Rattle.image_map.specs.declared.image.Image.{Image}
 use Rattle.image_map.specs.Regions.{same_cell, same_region}
 use Rattle.image_map.proofs.OrderLaws.{same_cell-equal, same_cell-itself}
+use Rattle.item_list.proofs.TruthLaws.{same_test}
 use Rattle.strided.specs.Interval.{IsCanonical, greatest}
 use Rattle.strided.proofs.BoundLemmas.{member_lo}
 use Rattle.strided.proofs.MemberLemmas.{int_le_true}
@@ -185,11 +186,6 @@ held_other c v e =
 
 -- -- Candidates
 
-both_ways : (s t : Bool) → (s ≡ true → t ≡ true) → (t ≡ true → s ≡ true) → s ≡ t
-both_ways true t here back = sym (here refl)
-both_ways false true here back = back refl
-both_ways false false here back = refl
-
 or_one : (s t : Bool) → (s || t) ≡ true → (s ≡ true) ⊎ (t ≡ true)
 or_one true t e = inl refl
 or_one false t e = inr e
@@ -197,10 +193,6 @@ or_one false t e = inr e
 or_second : (s t : Bool) → t ≡ true → (s || t) ≡ true
 or_second true t e = refl
 or_second false t e = e
-
-or_first : (s t : Bool) → s ≡ true → (s || t) ≡ true
-or_first true t e = refl
-or_first false t e = absurd (true≢false (sym e))
 
 contained : (c : Cell) (xs : List Cell) → is_among c (map without_value xs) ≡ true → Contains xs c
 contained c [] e = absurd (true≢false (sym e))
@@ -210,12 +202,12 @@ contained c (x ∷ xs) e =
 listed : (c : Cell) (xs : List Cell) → Contains xs c → is_among c (map without_value xs) ≡ true
 listed c [] h = absurd (contains-none c h)
 listed c (x ∷ xs) h =
-    ⊎_elim (λ same. or_first (same_cell x c) (is_among c (map without_value xs)) (subst (λ d. same_cell x d ≡ true) same (same_cell-itself x)))
+    ⊎_elim (λ same. or_left (same_cell x c) (is_among c (map without_value xs)) (subst (λ d. same_cell x d ≡ true) same (same_cell-itself x)))
     (λ later. or_second (same_cell x c) (is_among c (map without_value xs)) (listed c xs later)) (contains-cases x xs c h)
 
 listed_same : (xs ys : List Cell) (c : Cell) → Contains xs c ↔ Contains ys c → is_among c (map without_value xs) ≡ is_among c (map without_value ys)
 listed_same xs ys c same =
-    both_ways (is_among c (map without_value xs)) (is_among c (map without_value ys)) (λ e. listed c ys (same.0 (contained c xs e))) (λ e. listed c xs (same.1 (contained c ys e)))
+    same_test (is_among c (map without_value xs)) (is_among c (map without_value ys)) (λ e. listed c ys (same.0 (contained c xs e))) (λ e. listed c xs (same.1 (contained c ys e)))
 
 pub same_candidates : (f : Cell → Values) (es : List CellValue) (xs ys : List Cell) → ((c : Cell) → Contains xs c ↔ Contains ys c) → rebuilt f (es ++ map without_value xs) ≡ rebuilt f (es ++ map without_value ys)
 same_candidates f es xs ys same =

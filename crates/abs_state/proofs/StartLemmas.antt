@@ -1,13 +1,13 @@
 -- What a run starts with: flags, registers, and the cells of the image.
 use Rattle.std.proofs.Common.{◌≡◌, ℕ, zero, suc, ◌+◌, ◌^◌, ◌≤◌, ◌==◌, Bool, true, false, cond, not, ◌||◌, ◌&&◌, append-nil, List, [], ◌∷◌, ◌++◌, Option, Some, None, refl, sym, ◌∙◌, ap, subst, ⊎_elim, inl, inr, arith}
-use Rattle.std.specs.Prelude.{ℤ, pos, ◌≤ℤ◌, ◌<ℤ◌, ◌+ℤ◌, ◌*◌, ◌↔◌, nat_lt, map, Contains, get_or, replicate, option_map}
+use Rattle.std.specs.Prelude.{ℤ, pos, ◌≤ℤ◌, ◌+ℤ◌, ◌*◌, ◌↔◌, nat_lt, map, Contains, get_or, replicate, option_map}
 use Rattle.std.specs.Int.{cast_unsigned, w32}
 use Rattle.std.proofs.lemmas.Option.{none-some, same_Some}
 use Rattle.std.proofs.lemmas.List.Elements.{Contains-append_left, Contains-append_right, Contains-append_cases}
 use Rattle.std.specs.Cmp.{signed_Decides}
 use Rattle.std.specs.Ordering.{int_eq}
 use Rattle.std.specs.List.{find}
-use Rattle.std.proofs.lemmas.Bool.{le-ltb, ne_eqb, eq-eqb, eqb-true, cond-true, cond-false, true≢false}
+use Rattle.std.proofs.lemmas.Bool.{le-ltb, ne_eqb, cond-true, cond-false, true≢false}
 use Rattle.std.proofs.lemmas.Int.{ints}
 use Rattle.image_map.specs.declared.image.Segment.{Segment}
 use Rattle.image_map.specs.declared.region.Cell.{Cell}
@@ -18,15 +18,19 @@ use Rattle.image_map.specs.Whole.{ArePlaced, IsPlaced}
 use Rattle.strided.specs.Interval.{one}
 use Rattle.alocs.specs.declared.extents.Extent.{Extent}
 use Rattle.alocs.specs.Extents.{AreOfImage}
-use Rattle.alocs.specs.Cells.{Division, CellsRise, IsTouched, AreTouched, holds, cells_from, cells_in, cells_of, cuts_of}
+use Rattle.alocs.specs.Cells.{Division, IsTouched, AreTouched, holds, cells_from, cells_in, cells_of, cuts_of}
 use Rattle.alocs.proofs.CellLemmas.{EndBy, cells_end, cells_in_rise}
-use Rattle.alocs.proofs.TouchLemmas.{end_of_all}
+use Rattle.alocs.proofs.TouchLemmas.{end_of_all, all_above, end_later}
 use Rattle.alocs.proofs.MemberLaws.{contains-cases, contains-head, contains-tail, contains-none}
-use Rattle.ia32_types.specs.Numbers.{flag_of}
+use Rattle.ia32_types.specs.declared.Flag.{Flag}
+use Rattle.ia32_types.specs.declared.Flag.TheVariants.{Cf, Pf, Zf, Sf, Of, Df}
+use Rattle.ia32_types.specs.declared.sets.FlagSet.{FlagSet}
+use Rattle.ia32_types.specs.Numbers.{flag_of, is_same_flag}
 use Rattle.ia32_types.specs.Sets.{has_flag}
 use Rattle.image_map.specs.declared.image.Image.{Image}
 use Rattle.image_map.specs.Queries.{byte_at}
 use Rattle.ia32_semantics.specs.State.{Bytes, bytes_at, joined, little_endian, put}
+use Rattle.item_list.proofs.TruthLaws.{eqb_swapped}
 use Rattle.vset.specs.Values.{Values, Top}
 use Rattle.abs_semantics.specs.States.{rebuilt}
 use Rattle.abs_semantics.specs.Joins.{has_length}
@@ -44,41 +48,32 @@ use Rattle.abs_state.proofs.WriteLemmas.{news_put}
 
 -- -- Flags
 
-first_flag : (n : ℕ) (t : Bool) → flag_in (record { zero = record { 0 = 63 }; one = record { 0 = 31 } }) n t ≡ cond (n == 5) (not t) true
-first_flag zero true = refl
-first_flag zero false = refl
-first_flag (suc zero) true = refl
-first_flag (suc zero) false = refl
-first_flag (suc (suc zero)) true = refl
-first_flag (suc (suc zero)) false = refl
-first_flag (suc (suc (suc zero))) true = refl
-first_flag (suc (suc (suc zero))) false = refl
-first_flag (suc (suc (suc (suc zero)))) true = refl
-first_flag (suc (suc (suc (suc zero)))) false = refl
-first_flag (suc (suc (suc (suc (suc zero))))) true = refl
-first_flag (suc (suc (suc (suc (suc zero))))) false = refl
-first_flag (suc (suc (suc (suc (suc (suc n)))))) t =
-    let m = suc (suc (suc (suc (suc (suc n))))) in
-    beyond m t (omega arith) ∙ sym (cond-false (m == 5) (not t) true (ne_eqb m 5 (λ e. absurd (omega (arith, e)))))
+pub first_flags : (all five : FlagSet) → ((x : Flag) → has_flag all x ≡ true) → ((x : Flag) → has_flag five x ≡ not (is_same_flag x Df))
+    → flag_in (record { zero = all; one = five }) ≡ (λ n t. cond (n == 5) (not t) true)
+first_flags all five alls fives = λ i n t. first_flag n t i
   where
-    beyond : (m : ℕ) (t : Bool) → 6 ≤ m → flag_in (record { zero = record { 0 = 63 }; one = record { 0 = 31 } }) m t ≡ true
-    beyond m true le = ap (λ b. cond b (has_flag (record { 0 = 31 }) (flag_of m)) true) (le-ltb m 6 le)
-    beyond m false le = ap (λ b. cond b (has_flag (record { 0 = 63 }) (flag_of m)) true) (le-ltb m 6 le)
-
-pub first_flags : flag_in (record { zero = record { 0 = 63 }; one = record { 0 = 31 } }) ≡ (λ n t. cond (n == 5) (not t) true)
-first_flags = λ i n t. first_flag n t i
+    first_flag : (n : ℕ) (t : Bool) → flag_in (record { zero = all; one = five }) n t ≡ cond (n == 5) (not t) true
+    first_flag zero true = fives Cf
+    first_flag zero false = alls Cf
+    first_flag (suc zero) true = fives Pf
+    first_flag (suc zero) false = alls Pf
+    first_flag (suc (suc zero)) true = fives Zf
+    first_flag (suc (suc zero)) false = alls Zf
+    first_flag (suc (suc (suc zero))) true = fives Sf
+    first_flag (suc (suc (suc zero))) false = alls Sf
+    first_flag (suc (suc (suc (suc zero)))) true = fives Of
+    first_flag (suc (suc (suc (suc zero)))) false = alls Of
+    first_flag (suc (suc (suc (suc (suc zero))))) true = fives Df
+    first_flag (suc (suc (suc (suc (suc zero))))) false = alls Df
+    first_flag (suc (suc (suc (suc (suc (suc n)))))) t =
+        let m = suc (suc (suc (suc (suc (suc n))))) in
+        beyond m t (omega arith) ∙ sym (cond-false (m == 5) (not t) true (ne_eqb m 5 (λ e. absurd (omega (arith, e)))))
+      where
+        beyond : (m : ℕ) (t : Bool) → 6 ≤ m → flag_in (record { zero = all; one = five }) m t ≡ true
+        beyond m true le = ap (λ b. cond b (has_flag five (flag_of m)) true) (le-ltb m 6 le)
+        beyond m false le = ap (λ b. cond b (has_flag all (flag_of m)) true) (le-ltb m 6 le)
 
 -- -- The cells of an image
-
-above : (low : ℤ) (cs : List Cell) → CellsRise low cs → (c : Cell) → Contains cs c → (low ≤ℤ c.start) × (c.start <ℤ c.end)
-above low [] rise c h = absurd (contains-none c h)
-above low (x ∷ xs) rise c h =
-    ⊎_elim (λ (same : x ≡ c). subst (λ (y : Cell). (low ≤ℤ y.start) × (y.start <ℤ y.end)) same (rise.0, rise.1))
-    (λ later. let found = above x.end xs rise.2 c later in (omega (arith, ints, rise.0, rise.1, found.0), found.1)) (contains-cases x xs c h)
-
-end_before : (limit later : ℤ) (cs : List Cell) → limit ≤ℤ later → EndBy limit cs → EndBy later cs
-end_before limit later [] le ends = tt
-end_before limit later (c ∷ cs) le ends = (omega (arith, ints, ends.0, le), end_before limit later cs le ends.1)
 
 both_end : (limit : ℤ) (xs ys : List Cell) → EndBy limit xs → EndBy limit ys → EndBy limit (xs ++ ys)
 both_end limit [] ys ends more = more
@@ -87,7 +82,7 @@ both_end limit (x ∷ xs) ys ends more = (ends.0, both_end limit xs ys ends.1 mo
 all_end : (r : RegionId) (limit : ℤ) (xs : List Extent) (cuts : List ℤ) → ((x : Extent) → Contains xs x → x.end ≤ℤ limit) → EndBy limit (cells_in r xs cuts)
 all_end r limit [] cuts ends = tt
 all_end r limit (x ∷ xs) cuts ends =
-    both_end limit (cells_from r x.start cuts x.end) (cells_in r xs cuts) (end_before x.end limit (cells_from r x.start cuts x.end) (ends x (contains-head x xs)) (cells_end r x.start cuts x.end))
+    both_end limit (cells_from r x.start cuts x.end) (cells_in r xs cuts) (end_later x.end limit (cells_from r x.start cuts x.end) (ends x (contains-head x xs)) (cells_end r x.start cuts x.end))
     (all_end r limit xs cuts (λ y h. ends y (contains-tail x xs y h)))
 
 placed_in : (ss : List Segment) (s : Segment) → ArePlaced ss → Contains ss s → IsPlaced s
@@ -107,7 +102,7 @@ module _ (ss : List Segment) (d : Division) (placed : ArePlaced ss) (of : AreOfI
   -- each cell of the image lies where numbers aren't negative
   pub image_cell : (c : Cell) → Contains (cells_of d Global) c → (pos 0 ≤ℤ c.start) × IsTouched (one (pos 0)) (2 ^ 31) c
   image_cell c h =
-      let lies = above (pos 0) (cells_of d Global) (cells_in_rise Global (pos 0) d.image (cuts_of d.lists Global) of.rise) c h in
+      let lies = all_above (pos 0) (cells_of d Global) (cells_in_rise Global (pos 0) d.image (cuts_of d.lists Global) of.rise) c h in
       let last = end_of_all (pos 2147483647) (cells_of d Global) (all_end Global (pos 2147483647) d.image (cuts_of d.lists Global) ends_low) c h in (
         lies.0,
         record {
@@ -125,15 +120,8 @@ all_top zero n = refl
 all_top (suc k) zero = refl
 all_top (suc k) (suc n) = all_top k n
 
-turned : (m n : ℕ) → (m == n) ≡ (n == m)
-turned m n = by_test (m == n) refl
-  where
-    by_test : (t : Bool) → (m == n) ≡ t → t ≡ (n == m)
-    by_test true e = sym (eq-eqb n m (sym (eqb-true m n e)))
-    by_test false e = sym (ne_eqb n m (λ same. absurd (true≢false (sym (eq-eqb m n (sym same)) ∙ e))))
-
 pub first_registers : (vs : List Values) (v : Values) → vs ≡ replicate 8 Top → put (register_in vs) 4 v ≡ (λ n. cond (n == 4) v Top)
-first_registers vs v is = λ i n. (ap (λ (ws : List Values). put (register_in ws) 4 v n) is ∙ (λ j. cond (turned 4 n j) v (all_top 8 n j))) i
+first_registers vs v is = λ i n. (ap (λ (ws : List Values). put (register_in ws) 4 v n) is ∙ (λ j. cond (eqb_swapped 4 n j) v (all_top 8 n j))) i
 
 -- -- First cells
 

@@ -24,6 +24,7 @@ use Rattle.abs_semantics.specs.Below.{implies, is_cell_below}
 use Rattle.cell_map.specs.declared.regions.Side.TheVariants.{First, Second, Together}
 use Rattle.cell_map.specs.Merges as lists
 use Rattle.cell_map.specs.Merges.{Regions as Lists, value_by, value_of_both, is_entry_below}
+use Rattle.abs_steps.specs.Flags.{allows, even_condition, may_hold}
 use Rattle.abs_state.specs.Views.{flag_in}
 use Rattle.vset.specs.Values.{Values, Top, Parts}
 use Rattle.vset.specs.Operations.{of_both}
@@ -123,6 +124,11 @@ flag_told f Zf t = refl
 flag_told f Sf t = refl
 flag_told f Of t = refl
 flag_told f Df t = refl
+
+-- conditions ask for flags alone that the sets tell of
+pub holds_told : (condition : ℕ) (f : AbsFlags) (holds : Bool) → may_hold condition (flag_in f) holds ≡ may_hold condition (allows f) holds
+unfolding may_hold even_condition
+holds_told condition f holds = refl
 
 -- -- States of both
 

@@ -4,7 +4,7 @@ use Rattle.std.specs.Int.{int_gap}
 use Rattle.image_map.specs.declared.region.Cell.{Cell}
 use Rattle.image_map.specs.declared.region.RegionId.TheVariants.{Global}
 use Rattle.strided.specs.Interval.{greatest}
-use Rattle.ia32_semantics.specs.Operands.{size}
+use Rattle.ia32_types.specs.Numbers.{size}
 use Rattle.alocs.specs.Cells.{Division}
 use Rattle.vset.specs.declared.part.Part.{Part}
 use Rattle.vset.specs.Values.{Values, Top}

@@ -44,7 +44,7 @@ fn fact_without(fact: &Option<CmpFact>, register: Reg) -> Option<CmpFact>
 fn five(flags: FlagSet) -> FlagSet
     ensures { (x : Flag) → has_flag result x ≡ (if is_same_flag x Df then false else has_flag flags x) }
 {
-    FlagSet(flags.0 & 31)
+    flags.within(FlagSet::arithmetic())
 }
 
 /// DF, where it is in a set.
@@ -52,7 +52,7 @@ fn five(flags: FlagSet) -> FlagSet
 fn direction(flags: FlagSet) -> FlagSet
     ensures { (x : Flag) → has_flag result x ≡ (if is_same_flag x Df then has_flag flags x else false) }
 {
-    FlagSet(flags.0 & 32)
+    flags.within(FlagSet::only(Flag::Df))
 }
 
 /// The five flags of arithmetic as some sets say, and DF as others.
@@ -72,17 +72,9 @@ fn with_any_five(others: &AbsFlags) -> AbsFlags
     ensures { flag_in result ≡ any_five (flag_in others.now) }
 {
     AbsFlags {
-        zero: FlagSet(31).with(direction(others.zero)),
-        one: FlagSet(31).with(direction(others.one)),
+        zero: FlagSet::arithmetic().with(direction(others.zero)),
+        one: FlagSet::arithmetic().with(direction(others.one)),
     }
-}
-
-/// DF, or no flag.
-#[tactic(auto, using(crate::proofs::FlagLemmas::has_known_direction))]
-fn direction_if(has: bool) -> FlagSet
-    ensures { (x : Flag) → has_flag result x ≡ (is_same_flag x Df && has) }
-{
-    if has { FlagSet::DF } else { FlagSet(0) }
 }
 
 /// DF is known, and the five flags of arithmetic are as some sets say.
@@ -91,8 +83,8 @@ fn with_known_direction(set: bool, others: &AbsFlags) -> AbsFlags
     ensures { flag_in result ≡ with_direction set (flag_in others.now) }
 {
     AbsFlags {
-        zero: five(others.zero).with(direction_if(!set)),
-        one: five(others.one).with(direction_if(set)),
+        zero: five(others.zero).with(FlagSet::only_if(!set, Flag::Df)),
+        one: five(others.one).with(FlagSet::only_if(set, Flag::Df)),
     }
 }
 

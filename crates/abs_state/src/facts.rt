@@ -4,8 +4,7 @@ ghost use Rattle.std.specs.Prelude.{◌≡◌};
 ghost use Rattle.abs_semantics.specs.Joins.{same_place, same_fact, fact_of as fact_of_spec};
 ghost use Rattle.abs_semantics.specs.Below.{is_fact_below as is_fact_below_spec};
 
-use cell_map::is_same_interval;
-use vset::{CmpFact, CmpPlace};
+use vset::{CmpFact, CmpPlace, is_same_interval};
 
 fn is_same_place(a: &CmpPlace, b: &CmpPlace) -> bool
     ensures { result ≡ same_place a.now b.now }
@@ -23,8 +22,8 @@ pub(crate) fn is_same_fact(f: &CmpFact, g: &CmpFact) -> bool
     is_same_place(&f.place, &g.place) && is_same_interval(&f.bound, &g.bound)
 }
 
-/// The fact of both, where they have the same.
-pub(crate) fn fact_of(f: &Option<CmpFact>, g: &Option<CmpFact>) -> Option<CmpFact>
+/// What the flags of two states were made of, where it is the same in both.
+pub fn fact_of(f: &Option<CmpFact>, g: &Option<CmpFact>) -> Option<CmpFact>
     ensures { result ≡ fact_of_spec f.now g.now }
 {
     match (f, g) {

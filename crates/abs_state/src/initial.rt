@@ -183,8 +183,8 @@ impl AbsState {
         Ok(AbsState {
             registers,
             flags: AbsFlags {
-                zero: FlagSet(63),
-                one: FlagSet(31),
+                zero: FlagSet::all(),
+                one: FlagSet::arithmetic(),
             },
             cells: first,
             live,

@@ -18,10 +18,13 @@ mod state;
 mod touching;
 mod writes;
 
+pub use facts::fact_of;
 pub use laws::{joins_keep_form, joins_keep_rising, widenings_keep_form};
 pub use parts::{with_part, with_second_byte};
+pub use puts::{numbers, put_known, put_link, put_links, put_number};
 pub use ranges::Piece;
 pub use reads::{cell_at, read_as};
 pub use registers::Registers;
 pub use state::AbsState;
+pub use touching::{may_change, touches};
 pub use writes::Memory;

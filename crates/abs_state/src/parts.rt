@@ -1,39 +1,16 @@
 //! Registers of which a part takes a value.
 
 ghost use Rattle.std.specs.Prelude.{◌≡◌, ◌<◌, ◌^◌, IfSome};
-ghost use Rattle.ia32_semantics.specs.Effects.{Word, Low, High, with_part as word_with_part_spec};
+ghost use Rattle.ia32_semantics.specs.Effects.{Word, Low, High};
 ghost use Rattle.ia32_semantics.specs.Operands.{part_of};
 ghost use Rattle.abs_semantics.specs.Operands.{known_with_part, is_up_to as is_up_to_spec, if_alone as if_alone_spec, with_part_value};
 
 use abs_alu::known;
 use abs_results::word_number;
+use ia32_alu::{with_part as with_low_part, with_second_byte as with_high_byte};
 use ia32_types::Width;
 use strided::Si;
 use vset::ValueSet;
-
-/// A word of which the low 16 bits are others.
-#[tactic(auto, unfolding(ia32_semantics::specs::Effects::with_part))]
-fn word_with_word(old: u32, value: u32) -> u32
-    ensures { result ≡ word_with_part_spec Word old value }
-{
-    old / 0x1_0000 * 0x1_0000 + value % 0x1_0000
-}
-
-/// A word of which the low 8 bits are others.
-#[tactic(auto, unfolding(ia32_semantics::specs::Effects::with_part))]
-fn word_with_low(old: u32, value: u32) -> u32
-    ensures { result ≡ word_with_part_spec Low old value }
-{
-    old / 0x100 * 0x100 + value % 0x100
-}
-
-/// A word of which the second byte is another.
-#[tactic(auto, unfolding(ia32_semantics::specs::Effects::with_part))]
-fn word_with_second_byte(old: u32, value: u32) -> u32
-    ensures { result ≡ word_with_part_spec High old value }
-{
-    old / 0x1_0000 * 0x1_0000 + value % 0x100 * 0x100 + old % 0x100
-}
 
 /// Whether there are numbers alone, from 0 up to one.
 fn is_up_to(most: u16, numbers: Option<Si>) -> bool
@@ -61,7 +38,7 @@ fn with_word(old: &ValueSet, new: ValueSet) -> ValueSet
     ensures { result ≡ with_part_value Word old.now new }
 {
     match (known::<32>(old), known::<16>(&new)) {
-        (Some(whole), Some(word)) => word_number(word_with_word(whole, word)),
+        (Some(whole), Some(word)) => word_number(with_low_part(Width::W16, whole, word)),
         _ => if_alone(0xFFFF, old, new),
     }
 }
@@ -71,7 +48,7 @@ fn with_low(old: &ValueSet, new: ValueSet) -> ValueSet
     ensures { result ≡ with_part_value Low old.now new }
 {
     match (known::<32>(old), known::<8>(&new)) {
-        (Some(whole), Some(byte)) => word_number(word_with_low(whole, byte)),
+        (Some(whole), Some(byte)) => word_number(with_low_part(Width::B8, whole, byte)),
         _ => if_alone(0xFF, old, new),
     }
 }
@@ -94,7 +71,7 @@ pub fn with_second_byte(old: &ValueSet, new: &ValueSet) -> ValueSet
     ensures { result ≡ with_part_value High old.now new.now }
 {
     match (known::<32>(old), known::<8>(new)) {
-        (Some(whole), Some(byte)) => word_number(word_with_second_byte(whole, byte)),
+        (Some(whole), Some(byte)) => word_number(with_high_byte(whole, byte)),
         _ => ValueSet::top(),
     }
 }

@@ -34,7 +34,8 @@ fn number_place(xs: &[u32], n: u32) -> usize
     }
 }
 
-fn put_number(xs: &mut Vec<u32>, n: u32) -> Result<(), AllocError>
+/// Puts a number among rising ones, once.
+pub fn put_number(xs: &mut Vec<u32>, n: u32) -> Result<(), AllocError>
     ensures { OnOk result (xs.new.items ≡ with_number n xs.old.items) }
 {
     let place = number_place(xs.as_slice(), n);
@@ -45,8 +46,8 @@ fn put_number(xs: &mut Vec<u32>, n: u32) -> Result<(), AllocError>
     Ok(())
 }
 
-/// Some numbers put among others.
-pub(crate) fn numbers(alloc: Global, more: &[u32], into: &[u32]) -> Result<Vec<u32>, AllocError>
+/// Some numbers put among rising ones, each once.
+pub fn numbers(alloc: Global, more: &[u32], into: &[u32]) -> Result<Vec<u32>, AllocError>
     ensures { IfOk result (λ v. v.items ≡ numbers_of more.now into.now) }
 {
     let mut out = Vec::from_slice(alloc, into)?;
@@ -80,8 +81,8 @@ fn known_place(ks: &[Known], region: &RegionId) -> usize
     }
 }
 
-/// A region's number put among others, over the one that it has.
-pub(crate) fn put_known(ks: &mut Vec<Known>, k: Known) -> Result<(), AllocError>
+/// Puts a region's number among those of other regions, over the one that it has.
+pub fn put_known(ks: &mut Vec<Known>, k: Known) -> Result<(), AllocError>
     ensures { OnOk result (ks.new.items ≡ put_known_spec k ks.old.items) }
 {
     let place = known_place(ks.as_slice(), &k.region);
@@ -164,7 +165,8 @@ fn link_place(ls: &[Link], l: &Link) -> usize
     }
 }
 
-fn put_link(ls: &mut Vec<Link>, l: &Link) -> Result<(), AllocError>
+/// Puts a link among others: of two links of the same procedures and age the offsets are joined.
+pub fn put_link(ls: &mut Vec<Link>, l: &Link) -> Result<(), AllocError>
     ensures { OnOk result (ls.new.items ≡ with_link l.now ls.old.items) }
 {
     let place = link_place(ls.as_slice(), l);
@@ -177,15 +179,23 @@ fn put_link(ls: &mut Vec<Link>, l: &Link) -> Result<(), AllocError>
     Ok(())
 }
 
+/// Puts some links among others, each as `put_link` does.
+pub fn put_links(links: &mut Vec<Link>, more: &[Link]) -> Result<(), AllocError>
+    ensures { OnOk result (links.new.items ≡ links_of more.now links.old.items) }
+{
+    let mut rest = more;
+    while let Some((l, before)) = rest.split_last() {
+        put_link(links, l)?;
+        rest = before;
+    }
+    Ok(())
+}
+
 /// Some links put among others: offsets of the same two procedures and age are joined.
 pub(crate) fn links(alloc: Global, more: &[Link], into: &[Link]) -> Result<Vec<Link>, AllocError>
     ensures { IfOk result (λ v. v.items ≡ links_of more.now into.now) }
 {
     let mut out = Vec::from_slice(alloc, into)?;
-    let mut rest = more;
-    while let Some((l, before)) = rest.split_last() {
-        put_link(&mut out, l)?;
-        rest = before;
-    }
+    put_links(&mut out, more)?;
     Ok(out)
 }

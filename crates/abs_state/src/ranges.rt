@@ -5,14 +5,14 @@ ghost use Rattle.std.specs.Int.{int_gap};
 ghost use Rattle.image_map.specs.declared.region.RegionId.TheVariants as region;
 ghost use Rattle.strided.specs.Interval.{IsCanonical, greatest};
 ghost use Rattle.alocs.specs.Cells.{Division, cells_of};
-ghost use Rattle.ia32_semantics.specs.Operands.{size as size_spec};
+ghost use Rattle.ia32_types.specs.Numbers.{size};
 ghost use Rattle.ia32_semantics.specs.State.{little_endian};
 ghost use Rattle.abs_semantics.specs.Touching.{cell_at as cell_at_spec, is_within as is_within_spec, overlap as overlap_spec, sure_place as sure_place_spec};
 ghost use Rattle.abs_semantics.specs.Ranges.{value_of_cell as value_of_cell_spec, lone_range as lone_range_spec, read_range as read_range_spec, repeated as repeated_spec, is_clear as is_clear_spec, stored as stored_spec, range_written_there, range_written_by, write_range as write_range_spec};
 ghost use Rattle.abs_state.specs.Ranges.{AreWithin, IsInReach, held_in, number_length as number_length_spec, stored_as};
 ghost use Rattle.abs_state.specs.Views.{seen};
 
-use crate::reads::{cell_at, size, sure_entries};
+use crate::reads::{cell_at, sure_entries};
 use crate::state::AbsState;
 use crate::touching::{any_touches, lone_place, sure_place, touches};
 use crate::writes::{Memory, Write};
@@ -108,10 +108,10 @@ fn cell_behind(cells: &Cells, place: &Part, piece: Piece) -> Option<Cell>
 
 /// The byte of a number of a width that is stored over and over, at a distance from its start.
 fn byte_of(width: Width, number: u32, distance: u64) -> u32
-    ensures value { result ≡ number / 2 ^ (8 * (distance % size_spec width)) % 256 }
+    ensures value { result ≡ number / 2 ^ (8 * (distance % size width)) % 256 }
     ensures below { result < 256 }
 {
-    let shift = 8 * (distance % u64::from(size(width)));
+    let shift = 8 * (distance % u64::from(width.bytes()));
     (number >> shift) % 0x100
 }
 
@@ -119,7 +119,7 @@ fn byte_of(width: Width, number: u32, distance: u64) -> u32
 fn repeated_word(width: Width, number: u32, distance: u64, bytes: u32) -> u32
     requires few { (bytes ≡ 1) ⊎ ((bytes ≡ 2) ⊎ (bytes ≡ 4)) }
     requires near { distance < 2 ^ 32 }
-    ensures { result ≡ little_endian (repeated_spec (size_spec width) number distance bytes) }
+    ensures { result ≡ little_endian (repeated_spec (size width) number distance bytes) }
 {
     let first = byte_of(width, number, distance);
     if bytes == 1 {

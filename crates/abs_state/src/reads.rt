@@ -2,7 +2,6 @@
 
 ghost use Rattle.std.specs.Prelude.{◌≡◌, ◌≤◌, ◌<◌, [], not, nat_lt, length, get_or, Some, IfOk};
 ghost use Rattle.ia32_types.specs.declared.Width.TheVariants.{B8, W16};
-ghost use Rattle.ia32_semantics.specs.Operands.{size as size_spec, low_part as low_part_spec};
 ghost use Rattle.strided.specs.Operations.{count};
 ghost use Rattle.vset.specs.Operations.{join};
 ghost use Rattle.vset.specs.Values.{Parts};
@@ -18,6 +17,7 @@ use abs_resolve::Places;
 use abs_results::{any_of, word_number};
 use alocs::Cells;
 use cell_map::has_length;
+use ia32_alu::low_part;
 use ia32_types::{Mem, Operand, Width};
 use image_map::{Cell, RegionId};
 use si_bits::{low8, low16};
@@ -186,28 +186,6 @@ fn second_byte(word: Option<u32>) -> ValueSet
     }
 }
 
-/// How many bytes a width has.
-pub(crate) fn size(width: Width) -> u32
-    ensures { result ≡ size_spec width }
-{
-    match width {
-        Width::B8 => 1,
-        Width::W16 => 2,
-        Width::D32 => 4,
-    }
-}
-
-/// The low part of a word.
-fn low_part(width: Width, word: u32) -> u32
-    ensures { result ≡ low_part_spec width word }
-{
-    match width {
-        Width::B8 => word % 0x100,
-        Width::W16 => word % 0x1_0000,
-        Width::D32 => word,
-    }
-}
-
 /// A value put to none.
 #[tactic(auto, using(crate::proofs::ReadLemmas::joined_to_none))]
 fn first_joined(alloc: Global, value: ValueSet) -> Result<ValueSet, AllocError>
@@ -302,7 +280,7 @@ impl AbsState {
             return Ok(any_of(width));
         }
         let address = self.address(alloc, m)?;
-        let value = self.read(alloc, cells, procedure, &address, size(width))?;
+        let value = self.read(alloc, cells, procedure, &address, width.bytes())?;
         Ok(read_as(width, value))
     }
 

@@ -10,11 +10,9 @@ ghost use Rattle.abs_semantics.specs.Touching.{meeting as meeting_spec, touches 
 ghost use Rattle.abs_semantics.specs.Accesses.{is_open_at as is_open_at_spec, may_change as may_change_spec};
 
 use cell_map::has_length;
-use image_map::{Cell, Image, RegionId, Segment};
+use image_map::{Cell, Image, PF_W, RegionId, Segment};
 use strided::Si;
 use vset::Part;
-
-const PF_W: u32 = 2;
 
 fn is_same(a: i32, b: i32) -> bool
     ensures { result ≡ int_eq a b }
@@ -73,7 +71,8 @@ fn meeting(si: &Si, len: u32, cell: &Cell) -> Option<Si>
     }
 }
 
-pub(crate) fn touches(len: u32, cell: &Cell, x: &Part) -> bool
+/// Whether `len` bytes from an offset of a part share a byte with a cell.
+pub fn touches(len: u32, cell: &Cell, x: &Part) -> bool
     ensures { result ≡ touches_spec len cell.now x.now }
 {
     x.region == cell.region && meeting(&x.si, len, cell).is_some()
@@ -173,8 +172,8 @@ fn is_open(segments: &[Segment], cell: &Cell) -> bool
     segments.iter().any(|segment| is_open_at(cell, segment))
 }
 
-/// Whether writes change a cell: those of the image outside the segments that may be written stay.
-pub(crate) fn may_change(image: &Image, cell: &Cell) -> bool
+/// Whether writes may change a cell: cells of the image that have no byte of a segment that may be written stay.
+pub fn may_change(image: &Image, cell: &Cell) -> bool
     ensures { result ≡ may_change_spec image.now cell.now }
 {
     cell.region != RegionId::Global || is_open(image.segments.as_slice(), cell)

@@ -11,7 +11,7 @@ use Rattle.ia32_types.specs.declared.Op.{Op}
 use Rattle.ia32_types.specs.declared.Op.TheVariants as op
 use Rattle.ia32_types.specs.declared.Instr.{Instr}
 use Rattle.ia32_semantics.specs.Effects.{Whole}
-use Rattle.ia32_semantics.specs.Operands.{size}
+use Rattle.ia32_types.specs.Numbers.{size}
 use Rattle.strided.specs.Interval.{Interval}
 use Rattle.vset.specs.Values.{Values, only_number}
 use Rattle.vset.specs.Operations.{add}

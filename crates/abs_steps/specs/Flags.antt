@@ -4,7 +4,7 @@ use Rattle.std.specs.Prelude.{ℕ, ◌/◌, ◌%◌, ◌==◌, ◌&&◌, ◌||�
 use Rattle.ia32_types.specs.Numbers.{flag_number, flag_of}
 use Rattle.ia32_types.specs.Sets.{has_flag}
 use Rattle.vset.specs.declared.facts.AbsFlags.{AbsFlags}
-use Rattle.abs_alu.specs.Flags.{flag_set}
+use Rattle.ia32_types.specs.Sets.{flag_set}
 
 -- whether each flag, by its number, may be so
 abbrev pub MayBe : Type 0

@@ -1,5 +1,5 @@
 -- What stands at an address, and where a jump or a call may go. The rules are the project's own.
-use Rattle.std.specs.Prelude.{ℕ, ◌||◌, nat_lt, Bool, true, false, if◌then◌else◌, List, [], ◌∷◌, length, map, filter, Option, Some, None, is_some, option_and_then, slice_get, Result, Ok, Err}
+use Rattle.std.specs.Prelude.{ℕ, ◌||◌, nat_lt, Bool, true, false, if◌then◌else◌, List, [], ◌∷◌, length, map, filter, Option, Some, None, is_some, option_and_then, slice_get}
 use Rattle.std.specs.List.{list_any}
 use Rattle.image_map.specs.declared.image.Image.{Image}
 use Rattle.image_map.specs.declared.region.Kind.{Kind}
@@ -11,9 +11,7 @@ use Rattle.ia32_types.specs.declared.Width.TheVariants.{D32}
 use Rattle.ia32_types.specs.declared.Operand.{Operand}
 use Rattle.ia32_types.specs.declared.Operand.TheVariants as operand
 use Rattle.ia32_types.specs.declared.Instr.{Instr}
-use Rattle.ia32_decode.specs.declared.NotDecoded.{NotDecoded}
-use Rattle.ia32_decode.specs.Decoded.{decoded}
-use Rattle.ia32_semantics.specs.Fetch.{fetch_window}
+use Rattle.ia32_fetch.specs.Fetched.{instruction_at}
 use Rattle.strided.specs.Interval.{Interval}
 use Rattle.strided.specs.Operations.{count}
 use Rattle.si_bits.specs.Concrete.{word}
@@ -31,14 +29,6 @@ pub data Content : Type 0 where
   Extern : Kind → Content
   Instruction : Instr → Content
   Nothing : Content
-
-abbrev pub instruction_of : Result Instr NotDecoded → Option Instr
-instruction_of (Ok i) = Some i
-instruction_of (Err e) = None
-
--- the instruction with which the code at an address begins
-unfoldable pub instruction_at : Image → ℕ → Option Instr
-instruction_at image a = instruction_of (decoded (fetch_window image a) a)
 
 -- the kind of the extern that stands there
 unfoldable pub kind_at : Image → Settings → ℕ → Option Kind

@@ -4,7 +4,7 @@ use Rattle.ia32_types.specs.declared.Reg.TheVariants.{Eax}
 use Rattle.ia32_types.specs.declared.Width.{Width}
 use Rattle.ia32_types.specs.declared.Operand.TheVariants as operand
 use Rattle.ia32_semantics.specs.Effects.{Whole}
-use Rattle.ia32_semantics.specs.Operands.{size}
+use Rattle.ia32_types.specs.Numbers.{size}
 use Rattle.strided.specs.Interval.{Interval, one}
 use Rattle.si_bits.specs.Operations.{mul}
 use Rattle.vset.specs.Values.{Values, Top, only_number}

@@ -4,9 +4,9 @@ use Rattle.std.specs.Prelude.{ℕ, if◌then◌else◌, List, [], ◌∷◌, Opt
 use Rattle.ia32_types.specs.declared.Width.{Width}
 use Rattle.ia32_types.specs.declared.Operand.{Operand}
 use Rattle.ia32_types.specs.declared.Operand.TheVariants as operand
-use Rattle.ia32_types.specs.Numbers.{reg_number}
+use Rattle.ia32_types.specs.Numbers.{reg_number, size}
 use Rattle.ia32_semantics.specs.Effects.{Whole, High}
-use Rattle.ia32_semantics.specs.Operands.{size, part_of}
+use Rattle.ia32_semantics.specs.Operands.{part_of}
 use Rattle.alocs.specs.Cells.{Division}
 use Rattle.vset.specs.declared.facts.AbsFlags.{AbsFlags}
 use Rattle.vset.specs.Values.{Values, Top}

@@ -2,18 +2,17 @@
 use Rattle.std.proofs.Common.{◌≡◌, ℕ, suc, ◌+◌, ◌<◌, ◌≤◌, Bool, true, false, ◌&&◌, List, [], ◌∷◌, length, drop, get_or, refl, sym, ◌∙◌, ap, subst}
 use Rattle.std.proofs.lemmas.List.{drop_more, drop_all}
 use Rattle.std.specs.Prelude.{◌==◌}
-use Rattle.std.specs.Cmp.{signed_Decides}
 use Rattle.std.specs.Ordering.{int_eq}
 use Rattle.std.proofs.lemmas.Bool.{and_parts, and_from, eqb-true, eq-eqb}
 use Rattle.image_map.specs.Regions.{same_cell, same_region}
 use Rattle.image_map.proofs.OrderLaws.{same_cell-equal, same_cell-itself, same_region-equal, same_region-itself}
 use Rattle.vset.specs.Operations.{same_interval, same_values}
-use Rattle.strided.specs.Interval.{Interval}
-use Rattle.vset.proofs.SameLemmas.{same_interval-equal, same_values-equal, equal-same_values}
+use Rattle.vset.proofs.SameLemmas.{same_interval-equal, same_values-equal, equal-same_values, same_interval-itself}
 use Rattle.abs_semantics.specs.declared.parts.CellValue.{CellValue}
 use Rattle.abs_semantics.specs.declared.parts.Known.{Known}
 use Rattle.abs_semantics.specs.declared.parts.Link.{Link}
 use Rattle.abs_semantics.specs.Joins.{same_flag, same_link}
+use Rattle.abs_semantics.proofs.BelowLemmas.{same_flag-equal}
 use Rattle.cell_map.specs.Lists.{same_lists, same_entry, same_whole, same_known}
 
 module _ {A : Type 0} (same : A → A → Bool) where
@@ -82,15 +81,6 @@ pub same_entry-itself : (x : CellValue) → same_entry x x ≡ true
 same_entry-itself x = and_from _ _ (same_cell-itself x.cell) (equal-same_values x.value x.value refl)
 
 -- -- Intervals, links and known numbers
-
-pub same_interval-itself : (a : Interval) → same_interval a a ≡ true
-same_interval-itself a = and_from _ _ (and_from _ _ (eq-eqb a.stride a.stride refl) ((signed_Decides a.lo a.lo).1 refl)) ((signed_Decides a.hi a.hi).1 refl)
-
-pub same_flag-equal : (s t : Bool) → same_flag s t ≡ true → s ≡ t
-same_flag-equal true true e = refl
-same_flag-equal true false e = sym e
-same_flag-equal false true e = e
-same_flag-equal false false e = refl
 
 pub same_flag-itself : (s : Bool) → same_flag s s ≡ true
 same_flag-itself true = refl

@@ -13,4 +13,4 @@ pub use change::Change;
 pub use map::CellMap;
 pub use merge::{has_length, held_by, of_both};
 pub use regions::{Regions, Rule, Side, has_number, known_number};
-pub use same::{Same, are_same, is_same_interval, is_same_link};
+pub use same::{Same, are_same, is_same_link};

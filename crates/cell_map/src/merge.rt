@@ -4,17 +4,16 @@ ghost use Rattle.std.specs.Prelude.{◌≡◌, ◌++◌, ◌+ℤ◌, pos, drop, 
 ghost use Rattle.std.specs.Ordering.{int_eq};
 ghost use Rattle.strided.specs.Interval.{IsCanonical};
 ghost use Rattle.vset.specs.Values.{Parts};
-ghost use Rattle.vset.specs.Operations.{of_both as of_both_spec, same_part};
+ghost use Rattle.vset.specs.Operations.{of_both as of_both_spec};
 ghost use Rattle.abs_semantics.specs.Joins.{fits_below, has_length as has_length_spec, may_hold as may_hold_spec, held_by as held_by_spec};
 ghost use Rattle.cell_map.specs.Merges.{entry, value_alone, value_by as value_by_spec, value_of_both, alone as alone_spec, merged as merged_spec};
 
 use crate::regions::{Rule, Side, Turn};
-use crate::same::is_same_interval;
 use abs_semantics::CellValue;
 use image_map::{Cell, RegionId};
 use std::alloc::{AllocError, Global};
 use strided::Si;
-use vset::{Both, Part, ValueSet};
+use vset::{Both, Part, ValueSet, is_same_part};
 
 /// Puts a cell's value at the end of a list, unless it is every value.
 fn put(out: &mut Vec<CellValue>, cell: &Cell, value: ValueSet) -> Result<(), AllocError>
@@ -123,12 +122,6 @@ fn lone_part(v: &ValueSet) -> Option<Part>
         Some([x]) => Some(*x),
         _ => None,
     }
-}
-
-fn is_same_part(x: &Part, y: &Part) -> bool
-    ensures { result ≡ same_part x.now y.now }
-{
-    x.region == y.region && is_same_interval(&x.si, &y.si)
 }
 
 /// The one part that both have, where they have no other.

@@ -1,14 +1,11 @@
 //! Whether two lists are the same.
 
 ghost use Rattle.std.specs.Prelude.{◌≡◌};
-ghost use Rattle.std.specs.Ordering.{int_eq};
-ghost use Rattle.vset.specs.Operations.{same_interval};
 ghost use Rattle.abs_semantics.specs.Joins.{same_link as same_link_spec};
 ghost use Rattle.cell_map.specs.Lists.{same_lists};
 
 use abs_semantics::{CellValue, Known, Link};
-use strided::Si;
-use vset::ValueSet;
+use vset::{ValueSet, is_same_interval};
 
 /// A test whether two things are the same.
 pub trait Same {
@@ -18,18 +15,6 @@ pub trait Same {
 
     fn is_same(&self, other: &Self) -> bool
         ensures { result ≡ same self.now other.now };
-}
-
-fn is_same(a: i32, b: i32) -> bool
-    ensures { result ≡ int_eq a b }
-{
-    a == b
-}
-
-pub fn is_same_interval(a: &Si, b: &Si) -> bool
-    ensures { result ≡ same_interval a.now b.now }
-{
-    a.stride() == b.stride() && is_same(a.lo(), b.lo()) && is_same(a.hi(), b.hi())
 }
 
 /// Whether two links are of the same procedures and the same age.

@@ -32,8 +32,8 @@ fn state(alloc: Global, procedure: u32) -> Result<AbsState, AllocError> {
     Ok(AbsState {
         registers: Registers::unknown(alloc)?,
         flags: AbsFlags {
-            zero: FlagSet(63),
-            one: FlagSet(63),
+            zero: FlagSet::all(),
+            one: FlagSet::all(),
         },
         cells: CellMap::new(alloc),
         live: Items::from_slice(alloc, &[procedure])?,

@@ -1,5 +1,5 @@
 use Rattle.std.proofs.Common.{sym, ◌∙◌, ap}
-use Rattle.ia32_semantics.specs.Operands.{size}
+use Rattle.ia32_types.specs.Numbers.{size}
 use Rattle.ia32_semantics.specs.State.{little_endian}
 use Rattle.abs_semantics.specs.Ranges.{repeated}
 use Rattle.abs_state.proofs.RangeLemmas.{one_byte, two_bytes, four_bytes, four_left}

@@ -24,7 +24,7 @@ returns c =
     let registers = c.set.ensures.values ∙ first_registers c.in_ok-registers.registers c.stack_start.result c.in_ok-registers.ensures ∙ (λ i n. cond (n == 4) (c.stack_start.ensures i) Top) in
     λ i. record {
       registers = registers i;
-      flags = first_flags i;
+      flags = first_flags c.all.result c.arithmetic.result c.all.ensures.members c.arithmetic.ensures.members i;
       cells = cells i;
       live = c.in_ok-live.ensures i;
       older = c.new.ensures i;
