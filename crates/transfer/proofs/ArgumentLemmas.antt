@@ -1,5 +1,5 @@
 -- Arguments that are read one after the other.
-use Rattle.std.proofs.Common.{◌≡◌, ℕ, ◌+◌, ◌-◌, ◌<◌, ◌≤◌, suc, false, List, [], ◌∷◌, ◌++◌, refl, sym, ◌∙◌, ap, append_assoc, append-nil, arith}
+use Rattle.std.proofs.Common.{◌≡◌, ℕ, ◌+◌, ◌-◌, ◌<◌, ◌≤◌, suc, false, List, [], ◌∷◌, ◌++◌, sym, ◌∙◌, ap, append_assoc, append-nil, arith}
 use Rattle.abs_semantics.specs.States.{AbsState as State}
 use Rattle.abs_steps.specs.declared.accesses.Access.{Access}
 use Rattle.abs_steps.specs.Accesses.{word_at, argument_at, arguments_read, words_read}

@@ -1,7 +1,7 @@
 -- Ranges of bytes by their length. The project's own.
 use Rattle.std.specs.Prelude.{ℕ, ◌==◌, Bool, true, false, if◌then◌else◌, List, [], ◌∷◌, Option, Some, None}
 use Rattle.ia32_types.specs.declared.Width.{Width}
-use Rattle.ia32_semantics.specs.Operands.{size}
+use Rattle.ia32_types.specs.Numbers.{size}
 use Rattle.strided.specs.Interval.{Interval}
 use Rattle.vset.specs.Values.{Values}
 use Rattle.abs_semantics.specs.declared.parts.RangeValue.TheVariants as range

@@ -6,10 +6,9 @@ ghost use Rattle.ia32_semantics.specs.Effects.{Whole};
 ghost use Rattle.abs_semantics.specs.Operands.{address as address_spec, with_register};
 ghost use Rattle.abs_state.specs.Views.{seen};
 ghost use Rattle.abs_steps.specs.Rows.{risen as risen_spec};
-ghost use Rattle.abs_steps.specs.Accesses.{access, word_at as word_at_spec, of_operand as of_operand_spec, first_read as first_read_spec, both_read as both_read_spec, second_read as second_read_spec, first_written as first_written_spec, factors_read as factors_read_spec, product_written as product_written_spec, string_range, word_pushed as word_pushed_spec, word_popped as word_popped_spec, reads as reads_spec, writes as writes_spec, accesses as accesses_spec};
+ghost use Rattle.abs_steps.specs.Accesses.{word_at as word_at_spec, of_operand as of_operand_spec, first_read as first_read_spec, both_read as both_read_spec, second_read as second_read_spec, first_written as first_written_spec, factors_read as factors_read_spec, product_written as product_written_spec, word_pushed as word_pushed_spec, word_popped as word_popped_spec, reads as reads_spec, writes as writes_spec, accesses as accesses_spec};
 ghost use Rattle.transfer.specs.Ranges.{ranged as ranged_spec, string_length as string_length_spec};
 
-use crate::widths::size;
 use abs_results::{bytes_of, count_of, pushed_at, risen};
 use abs_state::AbsState;
 use abs_steps::Access;
@@ -88,7 +87,7 @@ fn of_operand(
     match operand {
         Some(Operand::Mem(m)) if !m.gs => {
             let addr = a.address(alloc, m)?;
-            let len = Some(u32::from(size(width)));
+            let len = Some(width.bytes());
             one(alloc, Access { addr, len, write })
         }
         _ => Ok(none(alloc)),
@@ -153,14 +152,10 @@ fn string_length(a: &AbsState, rep: bool, width: Width) -> Option<u32>
     ensures { result ≡ string_length_spec (seen a.now) rep width }
 {
     if !rep {
-        return Some(u32::from(size(width)));
+        return Some(width.bytes());
     }
-    let count = count_of(
-        &a.flags,
-        a.registers.value(Reg::Ecx),
-        u32::from(size(width)),
-    )?;
-    Some(bytes_of(u32::from(size(width)), &count))
+    let count = count_of(&a.flags, a.registers.value(Reg::Ecx), width.bytes())?;
+    Some(bytes_of(width.bytes(), &count))
 }
 
 /// What a string instruction moves at a register.
@@ -244,7 +239,7 @@ fn word_popped(alloc: Global, a: &AbsState, i: &Instr) -> Result<Vec<Access>, Al
     match &i.dst {
         Some(Operand::Mem(m)) if !m.gs => {
             let addr = popped_address(alloc, a, m)?;
-            let len = Some(u32::from(size(i.width)));
+            let len = Some(i.width.bytes());
             let write = true;
             one(alloc, Access { addr, len, write })
         }

@@ -1,11 +1,11 @@
-//! Accesses of a few instructions and externs: with an address that is known, one in an activation, and one that isn't known.
+//! Accesses of a few instructions and externs, and states after a few instructions: with an address that is known, one in an activation, and one that isn't known.
 
 ghost use Rattle.std.specs.Prelude.{IfOk};
 ghost use Rattle.image_map.specs.Whole.{IsImage};
 
-use crate::{View, accesses, extern_accesses};
+use crate::{View, accesses, extern_accesses, post};
 use abs_alu::number;
-use abs_state::{AbsState, Registers};
+use abs_state::{AbsState, Memory, Registers};
 use abs_steps::Access;
 use alocs::Cells;
 use cell_map::CellMap;
@@ -56,7 +56,7 @@ fn state(alloc: Global, one: FlagSet) -> Result<AbsState, AllocError> {
     Ok(AbsState {
         registers: registers(alloc)?,
         flags: AbsFlags {
-            zero: FlagSet(63),
+            zero: FlagSet::all(),
             one,
         },
         cells: CellMap::new(alloc),
@@ -93,7 +93,7 @@ fn is_access(list: &[Access], i: usize, addr: &ValueSet, len: Option<u32>, write
 #[test]
 fn operands_and_the_stack(rt: HostRuntime) -> Result<(), Fail> {
     let alloc = rt.alloc();
-    let a = state(alloc, FlagSet(31))?;
+    let a = state(alloc, FlagSet::arithmetic())?;
     let at_stack = Some(Operand::Mem(Mem {
         base: Some(Reg::Esp),
         index: None,
@@ -120,12 +120,12 @@ fn operands_and_the_stack(rt: HostRuntime) -> Result<(), Fail> {
 fn strings(rt: HostRuntime) -> Result<(), Fail> {
     let alloc = rt.alloc();
     let filled = instr(Op::Stos { rep: true }, None);
-    let up = state(alloc, FlagSet(31))?;
+    let up = state(alloc, FlagSet::arithmetic())?;
     let known = accesses(alloc, &up, &filled)?;
     assert_eq!(rt; known.len(), 1);
     assert!(rt; is_access(known.as_slice(), 0, &number(0x2000), Some(12), true));
     // DF may be set.
-    let either = state(alloc, FlagSet(63))?;
+    let either = state(alloc, FlagSet::all())?;
     let unknown = accesses(alloc, &either, &filled)?;
     assert_eq!(rt; unknown.len(), 1);
     assert!(rt; is_access(unknown.as_slice(), 0, &number(0x2000), None, true));
@@ -137,7 +137,7 @@ fn externs(rt: HostRuntime) -> Result<(), Fail> {
     let alloc = rt.alloc();
     let image = image(alloc)?;
     let cells = Cells::from_cuts(alloc, Vec::new(alloc), &image)?;
-    let a = state(alloc, FlagSet(31))?;
+    let a = state(alloc, FlagSet::arithmetic())?;
     let view = View {
         state: &a,
         cells: &cells,
@@ -151,5 +151,27 @@ fn externs(rt: HostRuntime) -> Result<(), Fail> {
     let fills = extern_accesses(alloc, &view, &Kind::Fills(1, 2))?;
     assert_eq!(rt; fills.len(), 4);
     assert!(rt; is_access(fills.as_slice(), 3, &ValueSet::top(), None, true));
+    Ok(())
+}
+
+#[test]
+fn states(rt: HostRuntime) -> Result<(), Fail> {
+    let alloc = rt.alloc();
+    let image = image(alloc)?;
+    let cells = Cells::from_cuts(alloc, Vec::new(alloc), &image)?;
+    let memory = Memory {
+        cells: &cells,
+        image: &image,
+        procedure: 0x1000,
+    };
+    let a = state(alloc, FlagSet::arithmetic())?;
+    let ecx = Some(Operand::Reg(Reg::Ecx));
+    let raised = post(alloc, &a, &instr(Op::Inc, ecx), &memory)?;
+    assert!(rt; raised.register(Reg::Ecx).equals(&number(4)));
+    let pushed = post(alloc, &a, &instr(Op::Push, ecx), &memory)?;
+    assert!(rt; pushed.register(Reg::Esp).equals(&frame(-20)));
+    let filled = post(alloc, &a, &instr(Op::Stos { rep: true }, None), &memory)?;
+    assert!(rt; filled.register(Reg::Edi).equals(&number(0x200C)));
+    assert!(rt; filled.register(Reg::Ecx).equals(&number(0)));
     Ok(())
 }

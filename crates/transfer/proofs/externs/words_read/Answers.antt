@@ -1,5 +1,5 @@
 use Rattle.abs_state.specs.Views.{seen}
-use Rattle.transfer.proofs.ArgumentLemmas.{words_start, words_step, words_end}
+use Rattle.transfer.proofs.ArgumentLemmas.{words_step, words_end}
 use Rattle.transfer.proofs.externs.words_read.Goals as goal
 
 pub loop-before-preserved : goal.loop-before-preserved
