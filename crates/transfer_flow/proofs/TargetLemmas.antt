@@ -1,5 +1,5 @@
 -- Values of targets as numbers, and numbers as words.
-use Rattle.std.proofs.Common.{◌≡◌, ℕ, zero, suc, ◌+◌, ◌*◌, ◌<◌, ◌≤◌, Bool, true, false, cond, ◌||◌, not, List, [], ◌∷◌, ◌++◌, length, take, drop, get_or, Option, Some, None, ℤ, pos, ◌+ℤ◌, refl, sym, ◌∙◌, ap, append_assoc, append-nil, arith}
+use Rattle.std.proofs.Common.{◌≡◌, ℕ, zero, suc, ◌+◌, ◌*◌, ◌<◌, ◌≤◌, Bool, true, false, ◌||◌, not, List, [], ◌∷◌, ◌++◌, length, take, drop, get_or, Option, Some, None, ℤ, pos, ◌+ℤ◌, refl, sym, ◌∙◌, ap, append_assoc, append-nil, arith}
 use Rattle.std.specs.Prelude.{map, nat_lt}
 use Rattle.std.specs.List.{list_any}
 use Rattle.std.proofs.lemmas.Int.{ints}
@@ -14,6 +14,7 @@ use Rattle.si_bits.specs.Concrete.{word}
 use Rattle.vset.specs.Values.{Values, only_number}
 use Rattle.abs_semantics.specs.Joins.{with_number, numbers_of}
 use Rattle.abs_semantics.specs.Touching.{offsets, members}
+use Rattle.abs_semantics.proofs.JoinLemmas.{numbers_append}
 use Rattle.abs_state.specs.Puts.{folded}
 use Rattle.abs_steps.specs.Places.{number_before, all_numbers, words_in, all_words, if_few, few_words}
 
@@ -60,11 +61,6 @@ offsets_count : (n s : ℕ) (from : ℤ) → length (offsets n s from) ≡ n
 offsets_count zero s from = refl
 offsets_count (suc n) s from = let rest = offsets_count n s (from +ℤ pos s) in omega (arith, rest)
 
-numbers_both : (xs ys zs : List ℕ) → numbers_of (xs ++ ys) zs ≡ numbers_of xs (numbers_of ys zs)
-unfolding numbers_of
-numbers_both [] ys zs = refl
-numbers_both (x ∷ xs) ys zs = ap (with_number x) (numbers_both xs ys zs)
-
 module _ (x : Interval) where
   pub words_start : (out : List ℕ) → numbers_of (map word (take (count x) (members x))) out ≡ numbers_of (words_in x) out
   words_start out =
@@ -78,7 +74,7 @@ module _ (x : Interval) where
       let few = offsets_count (count x) x.stride x.lo in
       let there : get_or (members x) k m ≡ m = offset_at (count x) x.stride k x.lo m lt ∙ sym here in
       ap (numbers_of (map word (take k (members x)))) (is ∙ ap (λ n. with_number n out) made)
-      ∙ sym (numbers_both (map word (take k (members x))) (word m ∷ []) out)
+      ∙ sym (numbers_append (map word (take k (members x))) (word m ∷ []) out)
       ∙ ap (λ t. numbers_of t out) (sym (map-append word (take k (members x)) (m ∷ [])))
       ∙ ap (λ z. numbers_of (map word (take k (members x) ++ z ∷ [])) out) (sym there)
       ∙ ap (λ t. numbers_of (map word t) out) (sym (take_more (members x) k m (omega (arith, few))))
@@ -124,11 +120,3 @@ words_told xs out r none is told = told ∙ ap if_few (is ∙ words_are xs) ∙ 
 pub many_end : (rest : List Interval) (whole : Bool) → length rest ≡ 0 → is_many rest ≡ whole → false ≡ whole
 many_end [] whole none h = h
 many_end (x ∷ xs) whole none h = absurd (omega arith)
-
-pub is_few : (b : Bool) → not b ≡ true → b ≡ false
-is_few true h = sym h
-is_few false h = refl
-
-pub isnt_few : (b : Bool) → not b ≡ false → b ≡ true
-isnt_few true h = refl
-isnt_few false h = sym h

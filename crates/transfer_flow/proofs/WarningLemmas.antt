@@ -1,8 +1,7 @@
 -- The names that are put one after the other are those that the definition keeps.
-use Rattle.std.proofs.Common.{◌≡◌, ℕ, Bool, true, false, cond, not, ◌&&◌, ◌||◌, List, [], ◌∷◌, ◌++◌, refl, sym, ◌∙◌, ap, append_assoc, append-nil}
+use Rattle.std.proofs.Common.{◌≡◌, Bool, true, false, cond, not, ◌&&◌, ◌||◌, List, [], ◌∷◌, ◌++◌, refl, sym, ◌∙◌, ap, append_assoc, append-nil}
 use Rattle.std.specs.Prelude.{map, filter}
 use Rattle.std.specs.List.{list_any}
-use Rattle.std.proofs.lemmas.Bool.{cond_both}
 use Rattle.image_map.specs.declared.image.Image.{Image}
 use Rattle.image_map.specs.declared.region.Kind.{Kind}
 use Rattle.ia32_types.specs.declared.Instr.{Instr}
@@ -13,7 +12,7 @@ use Rattle.abs_steps.specs.declared.accesses.Access.{Access}
 use Rattle.abs_steps.specs.declared.warnings.WarnName.{WarnName}
 use Rattle.abs_steps.specs.declared.warnings.WarnName.TheVariants as name
 use Rattle.abs_steps.specs.Views.{View}
-use Rattle.abs_steps.specs.Places.{Content, Extern, Instruction, Nothing}
+use Rattle.abs_steps.specs.Places.{Extern, Instruction, Nothing}
 use Rattle.abs_steps.specs.Successors.{is_call}
 use Rattle.abs_steps.specs.Accesses.{writes, extern_writes}
 use Rattle.abs_steps.specs.Warnings.{has_warning, instruction_warns, extern_warns, has_unresolved, loses_stack, extern_loses_stack, is_unknown, has_reason, writes_slot, writes_slot_in, names, warnings}

@@ -1,5 +1,4 @@
 -- What the code's contents of addresses mean. The project's own.
-use Rattle.std.specs.Prelude.{ℕ, ◌<◌, List, get_or}
 use Rattle.transfer_flow.specs.declared.contents.Content as code
 use Rattle.transfer_flow.specs.declared.contents.Content.TheVariants as content
 use Rattle.image_map.specs.CallModel.{IsKind}
@@ -16,7 +15,3 @@ abbrev pub IsContent : Content → Type 0
 IsContent (Extern k) = IsKind k
 IsContent (Instruction i) = IsInstruction i
 IsContent Nothing = Unit {0}
-
--- each is a byte
-abbrev pub HasBytes : List ℕ → Type 0
-HasBytes bytes = (k : ℕ) → get_or bytes k 0 < 256

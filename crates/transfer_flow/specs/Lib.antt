@@ -2,7 +2,5 @@ pub mod Contents
 pub mod States
 pub mod Written
 pub mod Names
-pub mod Values
-pub mod Moving
-pub mod Lists
 pub mod Successors
+pub mod Externs

@@ -1,6 +1,6 @@
 -- Successors as the code tells them. The project's own.
 use Rattle.std.specs.Prelude.{ℕ, ◌==◌, ◌&&◌, not, Bool, true, false, List, [], ◌∷◌, map, if◌then◌else◌, Option, Some, None}
-use Rattle.std.specs.List.{flat_map}
+use Rattle.std.specs.List.{list_any, flat_map}
 use Rattle.std.specs.Borrow.{Bor}
 use Rattle.image_map.specs.declared.image.Image.{Image}
 use Rattle.image_map.specs.declared.region.Settings.{Settings}
@@ -55,6 +55,14 @@ place_after image settings s c q =
 abbrev pub if_caller : Image → Settings → States → Node → Placed → List Caller
 if_caller image settings s n c =
     if is_caller image settings s n c then record { node = c.node; next = place_behind (content_at image settings c.node.at) } ∷ [] else []
+
+-- a procedure is the parent of a link by which the newest activation of another was called
+abbrev pub is_parent : ℕ → List Link → ℕ → Bool
+is_parent q ls p = list_any (λ (l : Link). (l.child == q && not l.aged) && p == l.parent) ls
+
+-- the same of callers by some link
+abbrev pub if_near : Image → Settings → States → Node → List Link → Placed → List Caller
+if_near image settings s n ls c = if is_parent n.context.proc ls c.node.context.proc then if_caller image settings s n c else []
 
 -- a state at the place after a call, where the call is one of a procedure
 abbrev pub behind : ℕ → State → Caller → List Placed

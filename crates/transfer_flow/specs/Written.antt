@@ -1,9 +1,8 @@
 -- The places of what is written. The project's own.
-use Rattle.std.specs.Prelude.{ℕ, Bool, List, map, Option}
+use Rattle.std.specs.Prelude.{ℕ, Bool, List, Option}
 use Rattle.std.specs.List.{list_any}
 use Rattle.abs_semantics.specs.declared.parts.Reason.{Reason}
 use Rattle.abs_semantics.specs.Resolve.{Resolved, same_reason}
-use Rattle.abs_resolve.specs.declared.search.Places.{Places}
 use Rattle.abs_steps.specs.declared.accesses.Access.{Access}
 use Rattle.abs_steps.specs.Views.{View}
 use Rattle.abs_steps.specs.Warnings.{resolved, writes_slot_in}

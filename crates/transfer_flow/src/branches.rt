@@ -4,12 +4,13 @@ ghost use Rattle.std.specs.Prelude.{◌≡◌, IfOk};
 ghost use Rattle.ia32_types.specs.Numbers.{reg_number};
 ghost use Rattle.ia32_semantics.specs.State.{put};
 ghost use Rattle.vset.specs.declared.facts.CmpPlace.TheVariants.{Cell as CellPlace};
+ghost use Rattle.abs_steps.specs.Flags.{may_hold as may_hold_spec};
 ghost use Rattle.abs_steps.specs.Successors.{has_member as has_member_spec, place_value as place_value_spec, with_place_value as with_place_value_spec, narrowed_to as narrowed_to_spec, narrowed as narrowed_spec, side as side_spec};
 ghost use Rattle.abs_state.specs.Views.{seen};
 ghost use Rattle.transfer_flow.specs.States.{state_in};
 
-use crate::conditions::may_hold;
 use abs_cmp::refine;
+use abs_results::may_hold;
 use abs_semantics::CellValue;
 use abs_state::AbsState;
 use cell_map::Change;
@@ -137,6 +138,13 @@ fn narrowed(
     }
 }
 
+/// Whether a condition may come out so in a state.
+fn may_come_out(a: &AbsState, cond: Cond, holds: bool) -> bool
+    ensures { result ≡ may_hold_spec cond (seen a.now).flags holds }
+{
+    may_hold(cond, &a.flags, holds)
+}
+
 /// The state on one side of a branch, or none where the flags or the value don't allow it.
 #[tactic(auto, unfolding(abs_steps::specs::Successors::side))]
 pub fn side(
@@ -147,7 +155,7 @@ pub fn side(
 ) -> Result<Option<AbsState>, AllocError>
     ensures { IfOk result (λ r. state_in r ≡ side_spec (seen a.now) cond taken) }
 {
-    if may_hold(cond, &a.flags, taken) {
+    if may_come_out(a, cond, taken) {
         narrowed(alloc, a, cond, taken)
     } else {
         Ok(None)

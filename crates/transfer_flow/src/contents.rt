@@ -2,12 +2,10 @@
 
 ghost use Rattle.std.specs.Prelude.{◌≡◌, length, slice_get, IfSome};
 ghost use Rattle.image_map.specs.CallModel.{IsKind, AreSettings};
-ghost use Rattle.ia32_types.specs.Operands.{IsInstruction};
-ghost use Rattle.ia32_semantics.specs.Fetch.{fetch_window};
-ghost use Rattle.abs_steps.specs.Places.{instruction_at as instruction_at_spec, kind_at as kind_at_spec, content_at as content_at_spec, is_place as is_place_spec};
-ghost use Rattle.transfer_flow.specs.Contents.{meant, IsContent, HasBytes};
+ghost use Rattle.abs_steps.specs.Places.{kind_at as kind_at_spec, content_at as content_at_spec, is_place as is_place_spec};
+ghost use Rattle.transfer_flow.specs.Contents.{meant, IsContent};
 
-use ia32_fetch::{LONGEST_INSTRUCTION, code_byte, fetched};
+use ia32_fetch::fetched;
 use ia32_types::Instr;
 use image_map::{Image, Kind, Settings};
 
@@ -17,42 +15,6 @@ pub enum Content {
     Extern(Kind),
     Instruction(Instr),
     Nothing,
-}
-
-fn are_bytes(bytes: &[u8])
-    ensures { HasBytes bytes.now }
-{}
-
-/// The code from an address on, as far as an instruction may reach, is bytes.
-fn fetches_bytes(image: &Image, at: u32)
-    ensures { HasBytes (fetch_window image.now at) }
-{
-    let mut bytes = [0; LONGEST_INSTRUCTION];
-    let mut len = 0;
-    'bytes: while len < LONGEST_INSTRUCTION {
-        match code_byte(image, u64::from(at) + len as u64) {
-            None => return are_bytes(&bytes[..len]),
-            Some(byte) => {
-                bytes[len] = byte;
-                len += 1;
-            }
-        }
-    }
-    are_bytes(&bytes[..len])
-}
-
-/// The instruction with which the code at an address begins.
-fn instruction_at(image: &Image, at: u32) -> Option<Instr>
-    ensures value { result ≡ instruction_at_spec image.now at }
-    ensures spelled { IfSome result IsInstruction }
-{
-    match fetched(image, at) {
-        Some(i) => Some(i),
-        None => {
-            fetches_bytes(image, at);
-            None
-        }
-    }
 }
 
 fn kind_of(settings: &Settings, number: u32) -> Option<Kind>
@@ -81,7 +43,7 @@ pub fn content_at(image: &Image, settings: &Settings, at: u32) -> Content
 {
     match kind_at(image, settings, at) {
         Some(kind) => Content::Extern(kind),
-        None => match instruction_at(image, at) {
+        None => match fetched(image, at) {
             Some(i) => Content::Instruction(i),
             None => Content::Nothing,
         },

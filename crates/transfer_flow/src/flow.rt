@@ -1,25 +1,29 @@
 //! Where control goes from a node, and with which abstract states.
 
-ghost use Rattle.std.specs.Prelude.{◌≡◌, ◌<◌, ◌++◌, true, length, map, IfOk, OnOk};
+ghost use Rattle.std.specs.Prelude.{◌≡◌, ◌<◌, ◌++◌, [], true, length, map, IfOk, OnOk};
 ghost use Rattle.image_map.specs.CallModel.{AreSettings};
 ghost use Rattle.ia32_types.specs.Operands.{IsInstruction};
 ghost use Rattle.ia32_semantics.specs.Rows.{next_place as next_place_spec};
-ghost use Rattle.abs_steps.specs.Successors.{at_node, moved_to as moved_to_spec, if_goes, branched as branched_spec, branched_to as branched_to_spec, jumped as jumped_spec, callee_node as callee_node_spec, slot_below as slot_below_spec, called_each as called_each_spec, entered_from as entered_from_spec, returned_from as returned_from_spec, instruction_successors as instruction_successors_spec};
+ghost use Rattle.abs_steps.specs.Successors.{at_node, moved_to as moved_to_spec, if_goes, branched as branched_spec, branched_to as branched_to_spec, jumped as jumped_spec, callee_node as callee_node_spec, slot_below as slot_below_spec, called_each as called_each_spec, entered_from as entered_from_spec, returned_from as returned_from_spec, next_to as next_to_spec, instruction_successors as instruction_successors_spec, successors_by as successors_by_spec, successors as successors_spec};
 ghost use Rattle.abs_state.specs.Views.{seen};
+ghost use Rattle.transfer_flow.specs.Contents.{meant, IsContent};
 ghost use Rattle.transfer_flow.specs.States.{state_in};
-ghost use Rattle.transfer_flow.specs.Successors.{all_placed, is_control, states_of, view_at};
+ghost use Rattle.transfer_flow.specs.Successors.{all_placed, is_control as is_control_spec, states_of, view_at};
 
 use crate::branches::side;
-use crate::calls::{Call, called};
+use crate::contents::{Content, content_at};
+use crate::externs::extern_successors;
 use crate::returning::returned_each;
 use crate::site::{Placed, Site, moved_to, next_place};
 use crate::stack::{extra_of, is_at_slot, stack_offset, takes_too_much};
 use crate::target_lists::{followed, number_at};
 use abs_state::AbsState;
+use call_states::{Call, called};
 use call_strings::Node;
 use ia32_types::{Cond, Instr, Op, Operand};
 use std::alloc::{AllocError, Global};
 use strided::Si;
+use transfer::post;
 
 /// Puts a side of a branch behind others, if control may go there.
 fn put_side(
@@ -177,9 +181,19 @@ fn returned_from(
     }
 }
 
+/// Whether control doesn't simply go on to the next instruction.
+fn is_control(op: &Op) -> bool
+    ensures { result ≡ is_control_spec op.now }
+{
+    matches!(
+        op,
+        Op::Jcc(_) | Op::Jmp | Op::Call | Op::Ret | Op::Hlt | Op::Int3 | Op::Ud2
+    )
+}
+
 /// Where control goes from an instruction that doesn't simply go on: a branch, a jump, a call, a return, or one that ends or fails.
 #[tactic(auto, unfolding(abs_steps::specs::Successors::instruction_successors))]
-pub fn control_successors(
+fn control_successors(
     alloc: Global,
     site: &Site<'_>,
     others: &[(&Node, &AbsState)],
@@ -187,7 +201,7 @@ pub fn control_successors(
 ) -> Result<Placed, AllocError>
     requires settings { AreSettings (length site.now.program.now.image.now.externs) site.now.program.now.settings.now }
     requires instruction { IsInstruction i.now }
-    requires control { is_control i.now.op ≡ true }
+    requires control { is_control_spec i.now.op ≡ true }
     ensures { IfOk result (λ v. all_placed v.items ≡ instruction_successors_spec i.now.op site.now.program.now.image.now site.now.program.now.settings.now (states_of site.now.program.now others.now) site.now.node.now i.now (seen site.now.state.now)) }
 {
     match i.op {
@@ -197,4 +211,68 @@ pub fn control_successors(
         Op::Ret => returned_from(alloc, site, others, extra_of(&i.dst)),
         _ => Ok(Vec::new(alloc)),
     }
+}
+
+/// The next instruction, in the same context.
+fn next_to(alloc: Global, site: &Site<'_>, i: &Instr) -> Result<Placed, AllocError>
+    ensures { IfOk result (λ v. all_placed v.items ≡ next_to_spec site.now.program.now.image.now (states_of site.now.program.now []) site.now.node.now i.now (seen site.now.state.now)) }
+{
+    let node = moved_to(next_place(i), site.node)?;
+    let state = post(alloc, site.state, i, &site.memory())?;
+    let mut out = Vec::new(alloc);
+    out.push((node, state))?;
+    Ok(out)
+}
+
+/// Where control goes from an instruction.
+fn instruction_successors(
+    alloc: Global,
+    site: &Site<'_>,
+    others: &[(&Node, &AbsState)],
+    i: &Instr,
+) -> Result<Placed, AllocError>
+    requires settings { AreSettings (length site.now.program.now.image.now.externs) site.now.program.now.settings.now }
+    requires instruction { IsInstruction i.now }
+    ensures { IfOk result (λ v. all_placed v.items ≡ instruction_successors_spec i.now.op site.now.program.now.image.now site.now.program.now.settings.now (states_of site.now.program.now others.now) site.now.node.now i.now (seen site.now.state.now)) }
+{
+    if is_control(&i.op) {
+        return control_successors(alloc, site, others, i);
+    }
+    let placed = next_to(alloc, site, i)?;
+    Ok(placed)
+}
+
+/// Where control goes from a node where this stands.
+#[tactic(auto, unfolding(abs_steps::specs::Successors::successors_by))]
+fn successors_by(
+    alloc: Global,
+    site: &Site<'_>,
+    others: &[(&Node, &AbsState)],
+    content: &Content,
+) -> Result<Placed, AllocError>
+    requires settings { AreSettings (length site.now.program.now.image.now.externs) site.now.program.now.settings.now }
+    requires content { IsContent (meant content.now) }
+    ensures { IfOk result (λ v. all_placed v.items ≡ successors_by_spec (meant content.now) site.now.program.now.image.now site.now.program.now.settings.now (states_of site.now.program.now others.now) site.now.node.now (seen site.now.state.now)) }
+{
+    match content {
+        Content::Extern(kind) => extern_successors(alloc, site, others, kind),
+        Content::Instruction(i) => instruction_successors(alloc, site, others, i),
+        Content::Nothing => Ok(Vec::new(alloc)),
+    }
+}
+
+/// The nodes to which control goes from a node, each with its state: of a branch the side that is taken first, targets as they rise, returns
+/// by link and then by the node of the call. The others are nodes with their states; a return looks at the calls among them.
+pub fn successors(
+    alloc: Global,
+    site: &Site<'_>,
+    others: &[(&Node, &AbsState)],
+) -> Result<Placed, AllocError>
+    requires { AreSettings (length site.now.program.now.image.now.externs) site.now.program.now.settings.now }
+    ensures { IfOk result (λ v. all_placed v.items ≡ successors_spec site.now.program.now.image.now site.now.program.now.settings.now (states_of site.now.program.now others.now) site.now.node.now (seen site.now.state.now)) }
+{
+    let program = site.program;
+    let content = content_at(program.image, program.settings, site.node.at);
+    let placed = successors_by(alloc, site, others, &content)?;
+    Ok(placed)
 }

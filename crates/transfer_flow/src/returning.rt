@@ -7,14 +7,14 @@ ghost use Rattle.image_map.specs.CallModel.{AreSettings};
 ghost use Rattle.call_strings.specs.Nodes.{same_node};
 ghost use Rattle.abs_steps.specs.Successors.{at_node, callee_node, returned_each as returned_each_spec};
 ghost use Rattle.abs_state.specs.Views.{seen};
-ghost use Rattle.transfer_flow.specs.Successors.{all_placed, placed_of, states_of, caller_by, if_caller, behind, by_link, place_after as place_after_spec};
+ghost use Rattle.transfer_flow.specs.Successors.{all_placed, placed_of, states_of, caller_by, is_parent as is_parent_spec, if_near, behind, by_link, place_after as place_after_spec};
 
 use crate::contents::{Content, content_at};
-use crate::returns::returned;
 use crate::site::{Placed, Program, Site, moved_to, next_place};
 use crate::target_lists::targets;
 use abs_semantics::Link;
 use abs_state::AbsState;
+use call_states::returned;
 use call_strings::Node;
 use ia32_types::Op;
 use std::alloc::{AllocError, Global};
@@ -44,7 +44,7 @@ fn are_sites_after(lane: u32, site: u32, sites: &[u32], found: &[u32]) -> bool
 }
 
 /// Whether a call at a node, of the procedure of another node, leaves that node's context.
-fn may_have_led(lane: u32, caller: &Node, node: &Node) -> bool
+pub fn may_have_led(lane: u32, caller: &Node, node: &Node) -> bool
     ensures { result ≡ same_node (callee_node lane caller.now.at node.now.context.proc caller.now) (record node.now { at = node.now.context.proc }) }
 {
     are_sites_after(
@@ -87,17 +87,34 @@ fn place_after_call(
     }
 }
 
-/// Puts a caller behind others, if the node is one.
+fn leads_from(procedure: u32, caller: u32, link: &Link) -> bool
+    ensures { result ≡ ((link.now.child == procedure && not link.now.aged) && caller == link.now.parent) }
+{
+    link.child == procedure && !link.aged && caller == link.parent
+}
+
+/// Whether a procedure is the parent of a link by which the newest activation of another was called.
+fn is_parent(procedure: u32, links: &[Link], caller: u32) -> bool
+    ensures { result ≡ is_parent_spec procedure links.now caller }
+{
+    links.iter().any(|link| leads_from(procedure, caller, link))
+}
+
+/// Puts a caller behind others, if the node is one by some link. Instructions are decoded at nodes of parents alone.
 fn put_caller<'a>(
     alloc: Global,
     site: &Site<'_>,
+    links: &[Link],
     other: (&'a Node, &AbsState),
     out: &mut Vec<Caller<'a>>,
 ) -> Result<(), AllocError>
     requires { AreSettings (length site.now.program.now.image.now.externs) site.now.program.now.settings.now }
-    ensures { OnOk result (map caller_by out.new.items ≡ map caller_by out.old.items ++ if_caller site.now.program.now.image.now site.now.program.now.settings.now (states_of site.now.program.now []) site.now.node.now (placed_of other.entry)) }
+    ensures { OnOk result (map caller_by out.new.items ≡ map caller_by out.old.items ++ if_near site.now.program.now.image.now site.now.program.now.settings.now (states_of site.now.program.now []) site.now.node.now links.now (placed_of other.entry)) }
 {
     let (node, state) = other;
+    if !is_parent(site.node.context.proc, links, node.context.proc) {
+        return Ok(());
+    }
     if !may_have_led(site.program.lane, node, site.node) {
         return Ok(());
     }
@@ -112,18 +129,19 @@ fn put_caller<'a>(
     Ok(())
 }
 
-/// The nodes whose call may have led to the activation that ends.
+/// The nodes whose call may have led to the activation that ends, by some link.
 fn callers<'a>(
     alloc: Global,
     site: &Site<'_>,
+    links: &[Link],
     others: &[(&'a Node, &'a AbsState)],
 ) -> Result<Vec<Caller<'a>>, AllocError>
     requires { AreSettings (length site.now.program.now.image.now.externs) site.now.program.now.settings.now }
-    ensures { IfOk result (λ v. map caller_by v.items ≡ flat_map (λ o. if_caller site.now.program.now.image.now site.now.program.now.settings.now (states_of site.now.program.now []) site.now.node.now (placed_of o)) others.now) }
+    ensures { IfOk result (λ v. map caller_by v.items ≡ flat_map (λ o. if_near site.now.program.now.image.now site.now.program.now.settings.now (states_of site.now.program.now []) site.now.node.now links.now (placed_of o)) others.now) }
 {
     let mut out = Vec::new(alloc);
     for other in others {
-        put_caller(alloc, site, *other, &mut out)?;
+        put_caller(alloc, site, links, *other, &mut out)?;
     }
     Ok(out)
 }
@@ -215,12 +233,13 @@ pub(crate) fn returned_each(
     requires few { extra < 65536 }
     ensures { IfOk result (λ v. all_placed v.items ≡ returned_each_spec site.now.program.now.image.now site.now.program.now.settings.now (states_of site.now.program.now others.now) site.now.node.now extra (seen from.now)) }
 {
-    let found = callers(alloc, site, others)?;
+    let links = from.links.as_slice();
+    let found = callers(alloc, site, links, others)?;
     let ending = Return {
         procedure: site.node.context.proc,
         extra,
         from,
     };
-    let placed = by_links(alloc, found.as_slice(), &ending, from.links.as_slice())?;
+    let placed = by_links(alloc, found.as_slice(), &ending, links)?;
     Ok(placed)
 }

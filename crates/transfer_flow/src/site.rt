@@ -6,7 +6,7 @@ ghost use Rattle.abs_steps.specs.Successors.{moved_to as moved_to_spec};
 ghost use Rattle.transfer_flow.specs.Successors.{view_at};
 ghost use Rattle.transfer.specs.Views.{view_by};
 
-use abs_state::AbsState;
+use abs_state::{AbsState, Memory};
 use alocs::Cells;
 use call_strings::Node;
 use ia32_types::Instr;
@@ -42,6 +42,19 @@ impl<'a> Site<'a> {
         View {
             state: self.state,
             cells: self.program.cells,
+            procedure: self.node.context.proc,
+        }
+    }
+
+    /// How memory is seen there.
+    pub(crate) fn memory(&self) -> Memory<'a>
+        ensures cells { result.cells.now ≡ self.now.program.now.cells.now }
+        ensures image { result.image.now ≡ self.now.program.now.image.now }
+        ensures procedure { result.procedure ≡ self.now.node.now.context.proc }
+    {
+        Memory {
+            cells: self.program.cells,
+            image: self.program.image,
             procedure: self.node.context.proc,
         }
     }

@@ -14,8 +14,7 @@ ghost use Rattle.abs_state.specs.Reads.{items_of};
 ghost use Rattle.transfer.specs.Views.{view_by};
 
 use crate::contents::is_place;
-use crate::lists::put_number;
-use abs_state::AbsState;
+use abs_state::{AbsState, put_number};
 use ia32_types::{Operand, Width};
 use image_map::{Cell, Image};
 use std::alloc::{AllocError, Global};

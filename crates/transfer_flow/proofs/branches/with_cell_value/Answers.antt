@@ -1,10 +1,9 @@
-use Rattle.std.proofs.Common.{◌≡◌, cond, List, ◌∙◌, ap}
+use Rattle.std.proofs.Common.{◌≡◌, cond, ◌∙◌, ap}
 use Rattle.image_map.specs.Regions.{same_cell}
-use Rattle.abs_semantics.specs.declared.parts.CellValue.{CellValue}
 use Rattle.abs_semantics.specs.States.{value_in, with_value, rebuilt}
 use Rattle.abs_state.specs.declared.state.AbsState.{AbsState}
 use Rattle.abs_state.specs.Views.{seen}
-use Rattle.transfer_flow.proofs.CellLemmas.{assigned_cells}
+use Rattle.call_states.proofs.CellLemmas.{assigned_cells}
 use Rattle.transfer_flow.proofs.branches.with_cell_value.Goals as goal
 
 pub returns : goal.returns

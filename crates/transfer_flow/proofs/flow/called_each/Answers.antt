@@ -5,7 +5,7 @@ use Rattle.abs_state.specs.Views.{seen}
 use Rattle.abs_steps.specs.Calls.{called}
 use Rattle.abs_steps.specs.Successors.{Placed, at_node, callee_node, slot_below}
 use Rattle.transfer_flow.specs.Successors.{placed_by, all_placed}
-use Rattle.transfer_flow.proofs.LoopLemmas.{map_step, map_end}
+use Rattle.call_states.proofs.LoopLemmas.{map_step, map_end}
 use Rattle.transfer_flow.proofs.flow.called_each.Goals as goal
 
 pub loop-at-preserved : goal.loop-at-preserved

@@ -1,5 +1,4 @@
 use Rattle.std.proofs.Common.{◌≡◌, ◌++◌, drop}
-use Rattle.std.specs.Prelude.{map}
 use Rattle.abs_steps.specs.Successors.{called_each}
 use Rattle.transfer_flow.specs.Successors.{all_placed, view_at}
 use Rattle.transfer_flow.proofs.flow.called_each.Given as goal

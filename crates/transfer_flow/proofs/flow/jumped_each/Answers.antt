@@ -3,7 +3,7 @@ use Rattle.std.proofs.lemmas.List.{map-append}
 use Rattle.abs_state.specs.Views.{seen}
 use Rattle.abs_steps.specs.Successors.{at_node, moved_to}
 use Rattle.transfer_flow.specs.Successors.{placed_by, all_placed}
-use Rattle.transfer_flow.proofs.LoopLemmas.{map_step, map_end}
+use Rattle.call_states.proofs.LoopLemmas.{map_step, map_end}
 use Rattle.transfer_flow.proofs.flow.jumped_each.Goals as goal
 
 pub loop-at-preserved : goal.loop-at-preserved

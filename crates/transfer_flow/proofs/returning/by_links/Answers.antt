@@ -1,7 +1,7 @@
 use Rattle.std.specs.Prelude.{map}
 use Rattle.abs_state.specs.Views.{seen}
 use Rattle.transfer_flow.specs.Successors.{all_placed, caller_by, by_link}
-use Rattle.transfer_flow.proofs.LoopLemmas.{flat_step, flat_end}
+use Rattle.call_states.proofs.LoopLemmas.{flat_step, flat_end}
 use Rattle.transfer_flow.proofs.returning.by_links.Goals as goal
 
 pub loop-link-preserved : goal.loop-link-preserved

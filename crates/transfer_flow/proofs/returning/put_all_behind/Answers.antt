@@ -1,7 +1,7 @@
 use Rattle.std.proofs.Common.{◌++◌, sym, ◌∙◌, ap}
 use Rattle.abs_state.specs.Views.{seen}
 use Rattle.transfer_flow.specs.Successors.{all_placed, caller_by, behind}
-use Rattle.transfer_flow.proofs.LoopLemmas.{flat_step, flat_end, flat_map_map}
+use Rattle.call_states.proofs.LoopLemmas.{flat_step, flat_end, flat_map_map}
 use Rattle.transfer_flow.proofs.returning.put_all_behind.Goals as goal
 
 pub loop-caller-preserved : goal.loop-caller-preserved

@@ -1,6 +1,6 @@
 use Rattle.std.proofs.Common.{◌∷◌, [], cond, ◌∙◌}
 use Rattle.abs_steps.specs.Places.{is_place}
-use Rattle.transfer_flow.proofs.LoopLemmas.{flat_step, flat_end, filter_flat}
+use Rattle.call_states.proofs.LoopLemmas.{flat_step, flat_end, filter_flat}
 use Rattle.transfer_flow.proofs.target_lists.places.Goals as goal
 
 pub loop-at-preserved : goal.loop-at-preserved

@@ -1,7 +1,7 @@
 use Rattle.std.proofs.Common.{◌++◌, ◌∷◌, [], ◌∙◌, ap}
 use Rattle.abs_semantics.specs.States.{value_at}
 use Rattle.abs_state.specs.Views.{seen}
-use Rattle.transfer_flow.proofs.LoopLemmas.{map_step, map_end}
+use Rattle.call_states.proofs.LoopLemmas.{map_step, map_end}
 use Rattle.transfer_flow.proofs.target_lists.values_at.Goals as goal
 
 pub loop-at-preserved : goal.loop-at-preserved

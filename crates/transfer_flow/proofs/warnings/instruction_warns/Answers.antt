@@ -1,4 +1,4 @@
-use Rattle.std.proofs.Common.{◌≡◌, [], ◌++◌, not, ◌&&◌, sym, ◌∙◌, ap}
+use Rattle.std.proofs.Common.{◌≡◌, [], ◌++◌, not, ◌&&◌, ◌∙◌, ap}
 use Rattle.std.specs.Prelude.{map}
 use Rattle.abs_steps.specs.Accesses.{writes}
 use Rattle.abs_steps.specs.Successors.{is_call}

@@ -2,8 +2,8 @@ use Rattle.std.proofs.Common.{◌≡◌, ◌++◌, ◌∷◌, [], ◌∙◌, ap}
 use Rattle.std.specs.Prelude.{map}
 use Rattle.std.proofs.lemmas.List.{map-append}
 use Rattle.transfer.specs.Views.{view_by}
-use Rattle.transfer_flow.specs.Written.{Met, met_by, met}
-use Rattle.transfer_flow.proofs.LoopLemmas.{map_step, map_end}
+use Rattle.transfer_flow.specs.Written.{met_by, met}
+use Rattle.call_states.proofs.LoopLemmas.{map_step, map_end}
 use Rattle.transfer_flow.proofs.written.all_written.Goals as goal
 
 pub loop-access-preserved : goal.loop-access-preserved

@@ -1,0 +1,3 @@
+pub mod Values
+pub mod Moving
+pub mod Lists
