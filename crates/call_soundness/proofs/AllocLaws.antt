@@ -1,12 +1,10 @@
 -- After an allocation the abstract state after the abstract allocation stands for the state.
-use Rattle.std.proofs.Common.{◌≡◌, ◌⊎◌, inl, inr, ⊎_elim, ℕ, zero, suc, ◌+◌, ◌-◌, ◌%◌, ◌^◌, ◌<◌, ◌≤◌, ◌==◌, ◌&&◌, ◌||◌, Bool, true, false, not, cond, List, [], ◌∷◌, ◌++◌, Option, Some, None, refl, sym, ◌∙◌, ap, subst, arith, lit<, pos, negsuc}
+use Rattle.std.proofs.Common.{◌≡◌, ◌⊎◌, inl, inr, ⊎_elim, ℕ, ◌+◌, ◌-◌, ◌%◌, ◌<◌, ◌≤◌, ◌==◌, ◌||◌, Bool, true, false, not, cond, List, [], ◌∷◌, ◌++◌, Option, Some, None, refl, sym, ◌∙◌, ap, subst, arith, pos, negsuc}
 use Rattle.std.specs.Prelude.{nat_le, filter, ℤ, ◌+ℤ◌, ◌≤ℤ◌, int_lt, unsigned_abs}
-use Rattle.std.specs.List.{list_any}
 use Rattle.std.proofs.lemmas.Int.{ints}
 use Rattle.std.proofs.lemmas.Bool.{false≢true, true≢false, cond_both, eqb-true, eq-eqb, cases_lt, leb-true, leb-false}
 use Rattle.std.proofs.lemmas.List.Folds.{list_any-append}
 use Rattle.std.proofs.lemmas.Option.{none-some, same_Some}
-use Rattle.image_map.specs.declared.region.Activation.{Activation}
 use Rattle.image_map.specs.declared.region.Cell.{Cell}
 use Rattle.image_map.specs.declared.region.RegionId.{RegionId}
 use Rattle.image_map.specs.declared.region.RegionId.TheVariants.{Frame, OldFrame, Heap, OldHeap}
@@ -21,16 +19,16 @@ use Rattle.si_bits.proofs.SignLemmas.{number-low, number-high}
 use Rattle.strided.specs.Interval.{Interval, IsMember}
 use Rattle.strided.proofs.MemberLemmas.{member_above}
 use Rattle.vset.specs.Members.{HasValue, HasOffset}
-use Rattle.vset.specs.Operations.{age, join}
-use Rattle.vset.specs.Values.{Values, Top, Parts, CanonicalValues, only_number}
+use Rattle.vset.specs.Operations.{age}
+use Rattle.vset.specs.Values.{Values, Top, only_number}
 use Rattle.vset.specs.World.{Thing, TheImage, ActivationAt, BlockAt, IsIn, base_of, region_of, is_called, has_key, key_of}
 use Rattle.vset.proofs.MemberLemmas.{join_has_left, join_has_right}
 use Rattle.vset.proofs.OffsetLemmas.{age_keeps, age_renames}
 use Rattle.abs_alu.proofs.WordLemmas.{only_has}
 use Rattle.abs_semantics.specs.declared.parts.Known.{Known}
-use Rattle.abs_semantics.specs.States.{AbsState, HasCanonical, CellsAreCanonical, value_at, rebuilt, known_of}
+use Rattle.abs_semantics.specs.States.{AbsState, HasCanonical, CellsAreCanonical, value_at, known_of}
 use Rattle.abs_semantics.specs.StandsFor.{StandsFor, world_of, Owns, IsCellOf, IsSized, HoldsFact}
-use Rattle.abs_semantics.specs.Joins.{held_by, lesser, put_known}
+use Rattle.abs_semantics.specs.Joins.{lesser, put_known}
 use Rattle.abs_semantics.proofs.CellLemmas.{value_canonical, rebuilt_value}
 use Rattle.abs_semantics.proofs.FormLemmas.{rebuilt_form}
 use Rattle.abs_semantics.proofs.JoinLemmas.{held_has}
@@ -144,7 +142,7 @@ snoc_split new x (w ∷ xs) (y ∷ before) later e = by (snoc_split new x xs bef
     by (inl h) = inl (h.0, h.1, (λ i. sym (first e) i ∷ h.2 i))
     by (inr h) = inr (h.0, h.1, (λ i. first e i ∷ h.2 i))
 
-append_split : (new x : Allocation) (xs before later : List Allocation) → xs ≡ before ++ (x ∷ later) → xs ++ (new ∷ []) ≡ before ++ (x ∷ (later ++ (new ∷ [])))
+pub append_split : (new x : Allocation) (xs before later : List Allocation) → xs ≡ before ++ (x ∷ later) → xs ++ (new ∷ []) ≡ before ++ (x ∷ (later ++ (new ∷ [])))
 append_split new x xs [] later e = ap (λ ys. ys ++ (new ∷ [])) e
 append_split new x [] (y ∷ before) later e = absurd (cc)
 append_split new x (w ∷ xs) (y ∷ before) later e = (λ i. first e i ∷ append_split new x xs before later (tail e) i)

@@ -1,21 +1,18 @@
 -- Where a return goes back to: behind each call that fits a successor stands, all with one abstract state.
-use Rattle.std.proofs.Common.{◌≡◌, ◌⊎◌, inl, inr, ℕ, ◌+◌, ◌-◌, ◌%◌, ◌^◌, ◌<◌, ◌≤◌, ◌==◌, ◌&&◌, ◌||◌, Bool, true, false, not, cond, List, [], ◌∷◌, ◌++◌, Option, Some, None, refl, sym, ◌∙◌, ap, subst, arith, lit<, pos, negsuc}
-use Rattle.std.specs.Prelude.{nat_lt, ℤ, ◌+ℤ◌, ◌-ℤ◌, ◌≤ℤ◌, int_lt, map, filter, is_some}
-use Rattle.std.specs.Option.{option_map}
-use Rattle.std.specs.Ordering.{int_eq}
-use Rattle.std.specs.List.{list_any, flat_map}
+use Rattle.std.proofs.Common.{◌≡◌, inl, inr, ℕ, ◌+◌, ◌%◌, ◌≤◌, ◌==◌, ◌&&◌, Bool, true, false, not, cond, List, [], ◌∷◌, Option, Some, None, refl, sym, ◌∙◌, ap, subst, arith, pos, ◌<◌}
+use Rattle.std.specs.Prelude.{nat_lt, ℤ, ◌+ℤ◌, ◌-ℤ◌, ◌≤ℤ◌, int_lt, filter}
+use Rattle.std.specs.List.{list_any}
 use Rattle.std.proofs.lemmas.Int.{ints}
-use Rattle.std.proofs.lemmas.Bool.{false≢true, true≢false, cond_both, and_from, eq-eqb, le-ltb}
+use Rattle.std.proofs.lemmas.Bool.{false≢true, true≢false, cond_both, and_from, eq-eqb, le-ltb, lt-ltb}
 use Rattle.std.proofs.lemmas.Cmp.{on_equiv, nat_list_eq_equiv}
 use Rattle.std.proofs.lemmas.Option.{none-some, same_Some}
 use Rattle.image_map.specs.declared.image.Image.{Image}
 use Rattle.image_map.specs.declared.region.Activation.{Activation}
 use Rattle.image_map.specs.declared.region.Settings.{Settings}
-use Rattle.ia32_types.specs.declared.Instr.{Instr}
 use Rattle.ia32_semantics.specs.CallModel.{IsWhole, AreActivations}
 use Rattle.ia32_semantics.specs.Machine.{Occurrence}
 use Rattle.ia32_semantics.specs.Rows.{next_place}
-use Rattle.ia32_semantics.specs.State.{State, bytes_at, little_endian, word_at}
+use Rattle.ia32_semantics.specs.State.{State, word_at, AtByte}
 use Rattle.alocs.proofs.CellLemmas.{int_lt_false}
 use Rattle.strided.specs.Interval.{IsMember}
 use Rattle.call_strings.specs.declared.context.Node.{Node}
@@ -27,9 +24,8 @@ use Rattle.abs_semantics.specs.StandsFor.{StandsFor, IsLinked}
 use Rattle.abs_semantics.proofs.LevelLemmas.{IsAmong, among_map, among_filter, among_flat}
 use Rattle.abs_semantics.proofs.StackLemmas.{base_bounds}
 use Rattle.abs_steps.specs.Calls as abs_calls
-use Rattle.abs_steps.specs.Places.{Content, Instruction, content_at}
-use Rattle.abs_steps.specs.Rows.{view_of}
-use Rattle.abs_steps.specs.Successors.{Placed, States, at_node, moved_to, callee_node, stack_offset, extra_of, is_at_slot, is_zero_offset, takes_too_much, young_links, calls_at, place_behind, goes_back_to, gone_back_to, returned_by, returned_each, returned_from, instruction_successors, successors_by, successors}
+use Rattle.abs_steps.specs.Places.{content_at}
+use Rattle.abs_steps.specs.Successors.{Placed, States, at_node, callee_node, is_zero_offset, young_links, calls_at, place_behind, goes_back_to, gone_back_to, returned_by, returned_each, successors}
 use Rattle.call_soundness.specs.Calls.{IsReturned}
 use Rattle.call_soundness.specs.Maps.{state_in, IsListed}
 use Rattle.call_soundness.proofs.ContentLaws.{fetched_stands}
@@ -37,7 +33,7 @@ use Rattle.call_soundness.proofs.EnterLaws.{kept_slots}
 use Rattle.ia32_semantics.specs.CallModel.{IsLaidOut}
 use Rattle.image_map.specs.Whole.{IsImage}
 use Rattle.ia32_semantics.specs.Outcome.{is_in_stack}
-use Rattle.ia32_semantics.specs.Step.{Act, HALT, IsPlaceAfter, is_single, returns_to_halt}
+use Rattle.ia32_semantics.specs.Step.{Act, HALT, IsPlaceAfter, is_single, returns_to_halt, forgets}
 use Rattle.step_soundness.proofs.AdvanceLaws.{place_word}
 use Rattle.ia32_semantics.proofs.EffectLemmas.{or_false_left, or_false_right}
 use Rattle.std.proofs.lemmas.Bool.Decides.{Decides-int_eq}
@@ -112,6 +108,8 @@ pub record Leaves (image : Image) (settings : Settings) (states : States) (n : N
   pub place : IsPlaceAfter image ending.site o.after.eip
   pub next : AbsState
   pub stands : StandsFor states.lane next o.after
+  -- the bytes of the activation that ends
+  pub given_up : (y : ℕ) → is_in_stack o.before.slot y ≡ true → y < ending.base + 4 → forgets o (AtByte y) ≡ true
   pub leads : (call : Node) (b : AbsState) → state_in call states.placed ≡ Some b → calls_at states call b (content_at image settings call.at) n.context.proc ≡ true
       → pushed states.lane call.at n.context.proc call.context ≡ n.context → call.at ≡ ending.site → call.context.proc ≡ parent.callee
       → IsListed (at_node (record call { at = o.after.eip }) next) (successors image settings states n a)
@@ -125,17 +123,18 @@ kept_above slot limit y mapped above =
     by true f = le-ltb y limit (above f)
     by false f = refl
 
--- A step that goes to the place in the return slot of the newest activation, and isn't the last of a run.
-module _ (image : Image) (o : Occurrence Act) (whole : IsWhole image o.before) (newest : Activation) (others : List Activation) (activations : o.before.activations ≡ newest ∷ others)
-    (place : ℕ) (is_place : word_at o.before.memory newest.base ≡ Some place) (eip : o.after.eip ≡ place % 4294967296) where
-  chain_at : (xs : List Activation) → others ≡ xs → AreActivations image o.before.memory o.before.slot (newest ∷ xs)
-  chain_at xs e = subst (AreActivations image o.before.memory o.before.slot) (activations ∙ ap (λ ys. newest ∷ ys) e) whole.activations
+-- A step that goes to the place in the return slot of the newest activation, and isn't the last of a run. State m has the calls of the state
+-- before it.
+module _ (image : Image) (o : Occurrence Act) (m : State) (whole : IsWhole image m) (same : m.activations ≡ o.before.activations) (newest : Activation) (others : List Activation) (activations : o.before.activations ≡ newest ∷ others)
+    (place : ℕ) (is_place : word_at m.memory newest.base ≡ Some place) (eip : o.after.eip ≡ place % 4294967296) where
+  chain_at : (xs : List Activation) → others ≡ xs → AreActivations image m.memory m.slot (newest ∷ xs)
+  chain_at xs e = subst (AreActivations image m.memory m.slot) (same ∙ activations ∙ ap (λ ys. newest ∷ ys) e) whole.activations
 
   -- the last activation would return to HALT
   not_alone : returns_to_halt o ≡ false → others ≡ [] → ⊥
   not_alone not_last none =
       let chain = chain_at [] none in
-      let is : place ≡ 4294901760 = same_Some place HALT (sym is_place ∙ ap (word_at o.before.memory) chain.0 ∙ chain.1) in
+      let is : place ≡ 4294901760 = same_Some place HALT (sym is_place ∙ ap (word_at m.memory) chain.0 ∙ chain.1) in
       let halt : o.after.eip ≡ HALT = eip ∙ (let e : place % 4294967296 ≡ 4294901760 = omega (arith, is) in e) in
       let single : is_single o.before.activations ≡ true = ap is_single (activations ∙ ap (λ ys. newest ∷ ys) none) in
       true≢false (sym (and_from (is_single o.before.activations) (o.after.eip == HALT) single (eq-eqb o.after.eip HALT halt)) ∙ not_last)
@@ -146,7 +145,7 @@ module _ (image : Image) (o : Occurrence Act) (whole : IsWhole image o.before) (
     pub older : List Activation
     pub are : others ≡ parent ∷ older
     pub above : newest.base + 4 ≤ parent.base
-    pub high : parent.base ≤ o.before.slot
+    pub high : parent.base ≤ m.slot
     pub behind : IsPlaceAfter image newest.site o.after.eip
 
   pub has_caller : returns_to_halt o ≡ false → HasCaller
@@ -164,7 +163,7 @@ module _ (image : Image) (o : Occurrence Act) (whole : IsWhole image o.before) (
             older = older;
             are = e;
             above = chain.1;
-            high = (base_bounds image o.before.memory o.before.slot parent older chain.3).0;
+            high = (base_bounds image m.memory m.slot parent older chain.3).0;
             behind = subst (λ x. IsPlaceAfter image newest.site x) (call.place_is ∙ sym goes) call;
           }
 
@@ -172,7 +171,8 @@ module _ (image : Image) (o : Occurrence Act) (whole : IsWhole image o.before) (
 module _ (image : Image) (settings : Settings) (states : States) (n : Node) (a b : AbsState) (o : Occurrence Act) (m : State) (ending parent : Activation) (older : List Activation) (extra : ℕ)
     (good : IsImage image) (whole : IsWhole image m) (stands : StandsFor states.lane b m) (runs : ending.callee ≡ n.context.proc) (were : o.before.activations ≡ ending ∷ parent ∷ older)
     (gone : IsReturned m o.after ending parent older extra) (laid : IsLaidOut image o.after) (below : ending.base + 4 + extra ≤ parent.base)
-    (behind_site : IsPlaceAfter image ending.site o.after.eip) (all : successors image settings states n a ≡ returned_each image settings states n extra b) where
+    (behind_site : IsPlaceAfter image ending.site o.after.eip) (forgotten : (y : ℕ) → forgets o (AtByte y) ≡ (is_in_stack o.before.slot y && nat_lt y (ending.base + 4 + extra)))
+    (all : successors image settings states n a ≡ returned_each image settings states n extra b) where
   abbrev p : ℕ
   p = n.context.proc
 
@@ -236,6 +236,7 @@ module _ (image : Image) (settings : Settings) (states : States) (n : Node) (a b
         parent = parent;
         older = older;
         were = were;
+        given_up = λ y stack lt. forgotten y ∙ and_from (is_in_stack o.before.slot y) (nat_lt y (ending.base + 4 + extra)) stack (lt-ltb y (ending.base + 4 + extra) (omega (arith, lt)));
         are = gone.activations;
         place = behind_site;
         next = state_after;

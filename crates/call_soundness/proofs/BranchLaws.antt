@@ -1,9 +1,9 @@
 -- The side of a branch that is taken: its abstract state stands for the state.
-use Rattle.std.proofs.Common.{◌≡◌, ℕ, ◌+◌, ◌^◌, ◌<◌, ◌==◌, Bool, true, false, not, cond, List, [], ◌∷◌, Option, Some, None, refl, sym, ◌∙◌, ap, subst, arith, lit<, pos}
+use Rattle.std.proofs.Common.{◌≡◌, ℕ, ◌^◌, ◌<◌, ◌==◌, Bool, true, cond, List, [], ◌∷◌, Option, Some, None, refl, sym, ◌∙◌, ap, subst, arith, lit<, pos}
 use Rattle.std.proofs.lemmas.Int.{ints}
-use Rattle.std.proofs.lemmas.Bool.{false≢true, cond_both, eqb-true}
+use Rattle.std.proofs.lemmas.Bool.{cond_both, eqb-true}
 use Rattle.std.proofs.lemmas.Option.{none-some, same_Some}
-use Rattle.std.specs.Prelude.{ℤ, ◌+ℤ◌}
+use Rattle.std.specs.Prelude.{◌+ℤ◌}
 use Rattle.std.specs.Option.{option_map}
 use Rattle.image_map.specs.declared.image.Image.{Image}
 use Rattle.image_map.specs.declared.region.Cell.{Cell}
@@ -17,12 +17,12 @@ use Rattle.vset.specs.declared.facts.CmpFact.{CmpFact}
 use Rattle.vset.specs.declared.facts.CmpPlace.{CmpPlace}
 use Rattle.vset.specs.declared.facts.CmpPlace.TheVariants as place
 use Rattle.vset.specs.Members.{HasValue}
-use Rattle.vset.specs.Values.{Values, Top, Parts, CanonicalValues}
+use Rattle.vset.specs.Values.{Values, Top, Parts}
 use Rattle.vset.specs.World.{Thing, base_of}
 use Rattle.abs_cmp.specs.Facts.{IsCompared}
 use Rattle.abs_cmp.specs.Refine.{refine}
 use Rattle.abs_cmp.proofs.RefineLemmas.{refine_keeps}
-use Rattle.abs_semantics.specs.States.{AbsState, HasCanonical, value_at, value_in, rebuilt}
+use Rattle.abs_semantics.specs.States.{AbsState, HasCanonical, value_at}
 use Rattle.abs_semantics.specs.StandsFor.{StandsFor, world_of, flags_of, IsCellOf, IsComparedIn, IsTrueAt, HoldsFact}
 use Rattle.abs_semantics.specs.Ownership.{IsKnown}
 use Rattle.abs_semantics.specs.Accesses.{without_value}

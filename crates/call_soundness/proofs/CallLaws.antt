@@ -1,10 +1,10 @@
 -- After a call the abstract state after the abstract call stands for the state.
-use Rattle.std.proofs.Common.{◌≡◌, ◌⊎◌, inl, inr, ℕ, ◌+◌, ◌*◌, ◌/◌, ◌%◌, ◌^◌, ◌<◌, ◌≤◌, ◌==◌, ◌&&◌, ◌||◌, Bool, true, false, not, cond, List, [], ◌∷◌, ◌++◌, Option, Some, None, refl, sym, ◌∙◌, ap, subst, arith, lit<, pos}
-use Rattle.std.specs.Prelude.{nat_le, nat_lt, map, filter, ℤ, ◌+ℤ◌, ◌-ℤ◌, ◌≤ℤ◌, is_some, unsigned_abs}
+use Rattle.std.proofs.Common.{◌≡◌, ◌⊎◌, inl, inr, ℕ, ◌+◌, ◌*◌, ◌/◌, ◌%◌, ◌<◌, ◌≤◌, ◌==◌, ◌&&◌, ◌||◌, Bool, true, false, not, cond, List, [], ◌∷◌, ◌++◌, Option, Some, None, refl, sym, ◌∙◌, ap, subst, arith, lit<, pos}
+use Rattle.std.specs.Prelude.{nat_le, nat_lt, ℤ, ◌+ℤ◌, ◌-ℤ◌, is_some, unsigned_abs}
 use Rattle.std.specs.Option.{option_map}
 use Rattle.std.specs.List.{list_any}
 use Rattle.std.proofs.lemmas.Int.{ints, int_rem_euclid_is}
-use Rattle.std.proofs.lemmas.Bool.{false≢true, true≢false, cond_both, eqb-true, eq-eqb, or_left, or_right, and_parts, and_from, le-leb, lt-ltb}
+use Rattle.std.proofs.lemmas.Bool.{false≢true, true≢false, cond_both, eqb-true, eq-eqb, or_left, and_parts, and_from, le-leb, lt-ltb}
 use Rattle.std.proofs.lemmas.Option.{none-some, same_Some}
 use Rattle.image_map.specs.declared.image.Image.{Image}
 use Rattle.image_map.specs.declared.region.Activation.{Activation}
@@ -13,22 +13,21 @@ use Rattle.image_map.specs.declared.region.RegionId.{RegionId}
 use Rattle.image_map.specs.declared.region.RegionId.TheVariants.{Global, Frame, OldFrame, Heap, OldHeap}
 use Rattle.image_map.specs.Regions.{same_region, same_cell}
 use Rattle.image_map.proofs.OrderLaws.{same_region-equal, same_region-itself, same_cell-equal}
-use Rattle.ia32_semantics.specs.declared.state.Allocation.{Allocation}
 use Rattle.image_map.specs.Whole.{IsImage}
-use Rattle.ia32_semantics.specs.CallModel.{IsLaidOut, AreBlocks, gives_block, block_of, blocks_given}
+use Rattle.ia32_semantics.specs.CallModel.{IsLaidOut, AreBlocks, block_of, blocks_given}
 use Rattle.ia32_semantics.specs.Outcome.{is_in_stack, is_in_block}
-use Rattle.ia32_semantics.specs.State.{State, Bytes, put, bytes_at, little_endian, word_at}
+use Rattle.ia32_semantics.specs.State.{State, put, bytes_at, little_endian}
 use Rattle.vset.specs.declared.part.Both.TheVariants.{Joined}
 use Rattle.vset.specs.declared.part.Part.{Part}
 use Rattle.vset.specs.Members.{HasValue, HasOffset}
 use Rattle.vset.specs.Operations.{part, with_part, join, without_region, renamed_into, with_renamed, age}
 use Rattle.vset.specs.Values.{Values, Top, Parts, AreCanonical, CanonicalValues}
-use Rattle.vset.specs.World.{World, Thing, TheImage, ActivationAt, BlockAt, IsIn, is_given, base_of, region_of, is_called, has_key, key_of}
+use Rattle.vset.specs.World.{Thing, TheImage, ActivationAt, BlockAt, IsIn, base_of, region_of, is_called, has_key, key_of}
 use Rattle.vset.proofs.MemberLemmas.{put_canonical, join_has_left, join_has_right}
 use Rattle.vset.proofs.OffsetLemmas.{age_keeps, age_renames}
 use Rattle.abs_alu.proofs.CanonicalLemmas.{settled_canonical}
-use Rattle.abs_semantics.specs.States.{AbsState, HasCanonical, CellsAreCanonical, value_at, value_in, has_procedure, known_of, rebuilt}
-use Rattle.abs_semantics.specs.StandsFor.{StandsFor, world_of, IsAboveAll, EndsAbove, Owns, IsCellOf, IsLinked, IsSized}
+use Rattle.abs_semantics.specs.States.{AbsState, HasCanonical, CellsAreCanonical, value_at, has_procedure, known_of}
+use Rattle.abs_semantics.specs.StandsFor.{StandsFor, world_of, Owns, IsCellOf, IsLinked, IsSized}
 use Rattle.abs_semantics.specs.Joins.{held_by, with_number, with_link, links_of, agreed}
 use Rattle.abs_semantics.specs.Operands.{word_number}
 use Rattle.abs_semantics.specs.Touching.{cell_at}
@@ -37,17 +36,19 @@ use Rattle.strided.specs.Concrete.{signed}
 use Rattle.strided.specs.Interval.{IsMember, one}
 use Rattle.strided.proofs.SumLemmas.{member_one}
 use Rattle.step_soundness.proofs.WordLaws.{word_has}
+use Rattle.slice_soundness.proofs.ReturnLemmas.{same_first}
 use Rattle.abs_semantics.proofs.CellLemmas.{value_canonical, rebuilt_value}
 use Rattle.abs_semantics.proofs.FormLemmas.{rebuilt_form}
-use Rattle.abs_semantics.proofs.JoinLemmas.{held_has}
+use Rattle.abs_semantics.proofs.JoinLemmas.{held_has, agreed_left, agreed_right}
 use Rattle.abs_semantics.proofs.StackLemmas.{stack_bounds, in_block}
 use Rattle.abs_semantics.proofs.StoreLemmas.{same_bytes}
-use Rattle.abs_steps.specs.Calls.{return_slot, remainder, moved_align, new_link, entered_value, entered, called, with_values, is_in, lies_below, as_of, moved, older_value, older_align, with_older_cells, cut_off, grown_old, grown_old_if_live, links_as, without_young, with_only}
+use Rattle.abs_semantics.proofs.ThingLemmas.{given_holds}
+use Rattle.abs_steps.specs.Calls.{return_slot, remainder, moved_align, new_link, entered_value, entered, called, with_values, is_in, lies_below, as_of, moved, older_value, older_align, cut_off, grown_old, links_as, without_young, with_only}
 use Rattle.call_soundness.specs.Calls.{IsCalled}
 use Rattle.call_soundness.specs.Laws.{CalledStatesStand}
-use Rattle.call_soundness.proofs.ListLaws.{number_keeps, number_has, link_keeps, link_has, links_keep, links_have, without_keeps, links_grow, only_other, only_same, agreed_left, agreed_right}
+use Rattle.call_soundness.proofs.ListLaws.{number_keeps, number_has, link_keeps, link_has, links_keep, links_have, without_keeps, links_grow, only_other, only_same}
 use Rattle.call_soundness.proofs.ThingLaws as things
-use Rattle.call_soundness.proofs.ThingLaws.{head_is, tail_is, as_itself}
+use Rattle.call_soundness.proofs.ThingLaws.{tail_is, as_itself}
 use Rattle.call_soundness.proofs.ValueLaws.{Stands, moved_value}
 
 -- -- The form of values that age
@@ -430,7 +431,7 @@ module _ (lane : ℕ) (a : AbsState) (s t : State) (new newest : Activation) (ot
       split_back : (y : Activation) (ys rest : List Activation) → t.activations ≡ y ∷ (ys ++ rest) → (new ≡ y) × (s.activations ≡ ys ++ rest)
       split_back y ys rest e =
           let both : new ∷ s.activations ≡ y ∷ (ys ++ rest) = sym call.activations ∙ e in
-          (head_is new y s.activations (ys ++ rest) both, tail_is new y s.activations (ys ++ rest) both)
+          (same_first new y s.activations (ys ++ rest) both, tail_is new y s.activations (ys ++ rest) both)
 
       root_is : (newer : List Activation) (oldest : Activation) → t.activations ≡ newer ++ (oldest ∷ []) → oldest.callee ≡ b.root
       root_is [] oldest e = absurd (cc_none (tail_is new oldest s.activations [] (sym call.activations ∙ e)))
@@ -441,7 +442,7 @@ module _ (lane : ℕ) (a : AbsState) (s t : State) (new newest : Activation) (ot
 
       live_is : (newer older : List Activation) (x : Activation) → t.activations ≡ newer ++ (x ∷ older) → has_procedure x.callee (with_number c b.live) ≡ true
       live_is [] older x e =
-          subst (λ (z : Activation). has_procedure z.callee (with_number c b.live) ≡ true) (head_is new x s.activations older (sym call.activations ∙ e)) (number_has c b.live)
+          subst (λ (z : Activation). has_procedure z.callee (with_number c b.live) ≡ true) (same_first new x s.activations older (sym call.activations ∙ e)) (number_has c b.live)
       live_is (y ∷ ys) older x e = number_keeps x.callee c b.live (g.live x.callee (stands.live ys older x (split_back y ys (x ∷ older) e).1))
 
       older_is : (newer older : List Activation) (x : Activation) → t.activations ≡ newer ++ (x ∷ older) → is_called x.callee newer ≡ true → has_procedure x.callee b.older ≡ true
@@ -454,9 +455,9 @@ module _ (lane : ℕ) (a : AbsState) (s t : State) (new newest : Activation) (ot
           → IsLinked (with_link (new_link c p offset) (without_young c b.links)) child.callee (is_called child.callee newer) parent.callee (pos child.base -ℤ pos parent.base)
       links_are [] older child parent e =
           let both : new ∷ s.activations ≡ child ∷ (parent ∷ older) = sym call.activations ∙ e in
-          let callee : new ≡ child = head_is new child s.activations (parent ∷ older) both in
+          let callee : new ≡ child = same_first new child s.activations (parent ∷ older) both in
           let rest : newest ∷ others ≡ parent ∷ older = sym call.before ∙ tail_is new child s.activations (parent ∷ older) both in
-          let caller : newest ≡ parent = head_is newest parent others older rest in
+          let caller : newest ≡ parent = same_first newest parent others older rest in
           let base : new.base ≡ child.base = ap (λ (z : Activation). z.base) callee in
           let above : newest.base ≡ parent.base = ap (λ (z : Activation). z.base) caller in
           let far : pos child.base -ℤ pos parent.base ≡ offset = omega (arith, ints) in
@@ -530,18 +531,6 @@ module _ (lane : ℕ) (a : AbsState) (s t : State) (new newest : Activation) (ot
           by false e = entered_stands d p offset runs distance small (cut_off p (offset +ℤ pos 4) a) (plain_grown p (offset +ℤ pos 4) form e)
 
 -- -- No byte of the image or of a block lies in the stack
-
-given_holds : (y : ℕ) (front : List Allocation) (x : Allocation) (back : List Allocation) → is_given x ≡ true → is_in_block y (block_of x) ≡ true → list_any (is_in_block y) (blocks_given (front ++ (x ∷ back))) ≡ true
-given_holds y [] x back given is = first (gives_block x) given
-  where
-    first : (b : Bool) → b ≡ true → list_any (is_in_block y) (map block_of (cond b (x ∷ filter gives_block back) (filter gives_block back))) ≡ true
-    first true e = or_left (is_in_block y (block_of x)) (list_any (is_in_block y) (blocks_given back)) is
-    first false e = absurd (false≢true e)
-given_holds y (z ∷ front) x back given is = passed (given_holds y front x back given is) (gives_block z)
-  where
-    passed : list_any (is_in_block y) (blocks_given (front ++ (x ∷ back))) ≡ true → (b : Bool) → list_any (is_in_block y) (map block_of (cond b (z ∷ filter gives_block (front ++ (x ∷ back))) (filter gives_block (front ++ (x ∷ back))))) ≡ true
-    passed rest true = or_right (is_in_block y (block_of z)) (list_any (is_in_block y) (blocks_given (front ++ (x ∷ back)))) rest
-    passed rest false = rest
 
 module _ (image : Image) (s : State) (good : IsImage image) (laid : IsLaidOut image s) where
   pub stack_owner : (u : Thing) → IsIn (world_of s) u → (y : ℕ) → Owns s u y → is_in_stack s.slot y ≡ true → (newer older : List Activation) × (x : Activation) × (u ≡ ActivationAt newer x older)

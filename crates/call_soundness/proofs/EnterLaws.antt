@@ -1,39 +1,36 @@
 -- Steps that call: a successor stands where the callee begins.
-use Rattle.std.proofs.Common.{◌≡◌, ◌⊎◌, inl, inr, ⊎_elim, ℕ, ◌+◌, ◌-◌, ◌%◌, ◌^◌, ◌<◌, ◌≤◌, ◌==◌, ◌&&◌, ◌||◌, Bool, true, false, not, cond, List, [], ◌∷◌, ◌++◌, Option, Some, None, refl, sym, ◌∙◌, ap, subst, arith, lit<, pos}
-use Rattle.std.specs.Prelude.{nat_le, nat_lt, ℤ, ◌+ℤ◌, ◌-ℤ◌, ◌≤ℤ◌, int_le, int_lt, map, is_some}
+use Rattle.std.proofs.Common.{◌≡◌, ◌⊎◌, inl, inr, ⊎_elim, ℕ, ◌+◌, ◌-◌, ◌%◌, ◌^◌, ◌<◌, ◌≤◌, ◌==◌, ◌&&◌, Bool, true, false, cond, List, [], ◌∷◌, Option, Some, None, refl, sym, ◌∙◌, ap, subst, arith, lit<, pos}
+use Rattle.std.specs.Prelude.{nat_le, nat_lt, ℤ, ◌+ℤ◌, ◌-ℤ◌, ◌≤ℤ◌, int_le, int_lt, is_some}
 use Rattle.std.specs.Option.{option_map}
 use Rattle.std.specs.List.{list_any}
 use Rattle.std.proofs.lemmas.Int.{ints}
-use Rattle.std.proofs.lemmas.Bool.{false≢true, true≢false, cond_both, and_parts, or_left, or_right, eq-eqb, eqb-true, leb-true, le-ltb, cases_lt}
-use Rattle.std.proofs.lemmas.Option.{none-some, same_Some}
+use Rattle.std.proofs.lemmas.Bool.{true≢false, cond_both, and_parts, or_left, or_right, eq-eqb, leb-true, le-ltb, cases_lt, lt-ltb, and_from, ltb-true}
 use Rattle.image_map.specs.declared.image.Image.{Image}
 use Rattle.image_map.specs.declared.region.Activation.{Activation}
 use Rattle.image_map.specs.declared.region.Settings.{Settings}
 use Rattle.ia32_types.specs.declared.Instr.{Instr}
-use Rattle.ia32_types.specs.declared.Op.{Op}
 use Rattle.ia32_types.specs.declared.Op.TheVariants as op
 use Rattle.ia32_types.specs.declared.Operand.{Operand}
 use Rattle.ia32_types.specs.declared.Width.{Width}
 use Rattle.ia32_types.specs.declared.Width.TheVariants.{D32}
 use Rattle.ia32_types.specs.Operands.{HasOperands, IsValue, HasOne}
 use Rattle.ia32_semantics.specs.CallModel.{IsWhole, AreActivations}
-use Rattle.ia32_semantics.specs.Effects.{effects_fit, effect_fits, overwritten, stores, with_part}
+use Rattle.ia32_semantics.specs.Effects.{effects_fit, effect_fits, overwritten, stores, with_part, effects_write, is_of_bytes}
 use Rattle.ia32_semantics.specs.Fetch.{IsFetched}
 use Rattle.ia32_semantics.specs.Machine.{Occurrence}
 use Rattle.ia32_semantics.specs.Operands as machine_operands
 use Rattle.ia32_semantics.specs.Operands.{number_bytes}
-use Rattle.ia32_semantics.specs.Outcome.{Outcome, going, enters, made, can_move, is_any, is_in_stack}
+use Rattle.ia32_semantics.specs.Outcome.{Outcome, going, enters, made, can_move, is_any, is_in_stack, is_forgotten}
 use Rattle.ia32_semantics.specs.Reading.{gives, ◌>>=◌, outcome}
 use Rattle.ia32_semantics.specs.Rows as rows
 use Rattle.ia32_semantics.specs.Rows.{next_place}
-use Rattle.ia32_semantics.specs.State.{State, Bytes, bytes_at, little_endian, word_at}
-use Rattle.ia32_semantics.specs.Step.{Act, Executes, Step, act_row, IsPlaceAfter}
+use Rattle.ia32_semantics.specs.State.{State, Bytes, little_endian, word_at, AtByte}
+use Rattle.ia32_semantics.specs.Step.{Act, act_row, forgets, writes as writes_of}
 use Rattle.ia32_semantics.proofs.EffectLemmas.{and_left}
-use Rattle.ia32_semantics.proofs.StepLemmas.{steps_stay_laid_out}
+use Rattle.ia32_semantics.proofs.StepLemmas.{steps_stay_laid_out, forgets_are, writes_are}
 use Rattle.strided.proofs.MemberLemmas.{le_int_le}
 use Rattle.alocs.proofs.CellLemmas.{int_lt_false}
 use Rattle.call_strings.specs.declared.context.Node.{Node}
-use Rattle.call_strings.specs.Nodes.{pushed}
 use Rattle.abs_semantics.specs.States.{AbsState}
 use Rattle.abs_semantics.specs.StandsFor.{StandsFor}
 use Rattle.abs_semantics.specs.Resolve.{resolve}
@@ -42,13 +39,12 @@ use Rattle.abs_semantics.proofs.RangeLemmas.{numbers_of, numbers_4}
 use Rattle.abs_semantics.proofs.StackLemmas.{base_bounds, mapped_near}
 use Rattle.abs_semantics.proofs.StoreLemmas.{same_bytes}
 use Rattle.abs_semantics.specs.Stores.{IsStored}
-use Rattle.abs_steps.specs.declared.warnings.WarnName.TheVariants as name
 use Rattle.abs_semantics.specs.declared.parts.Reason.TheVariants as reason
 use Rattle.abs_steps.specs.Accesses.{writes}
 use Rattle.abs_steps.specs.Calls as abs_calls
-use Rattle.abs_steps.specs.Places.{Content, Instruction, content_at, followed, targets}
+use Rattle.abs_steps.specs.Places.{Instruction, content_at, followed, targets}
 use Rattle.abs_steps.specs.Rows.{view_of, pushed_at}
-use Rattle.abs_steps.specs.Successors.{Placed, States, at_node, callee_node, slot_below, stack_offset, called_each, called_at, entered_from, is_call, calls_at, instruction_successors, successors_by, successors}
+use Rattle.abs_steps.specs.Successors.{States, at_node, callee_node, slot_below, stack_offset, called_each, called_at, is_call, calls_at, instruction_successors, successors_by, successors}
 use Rattle.abs_steps.specs.Warnings.{is_unresolved, has_unresolved, has_reason, has_warning, instruction_warns, loses_stack, is_above}
 use Rattle.step_soundness.specs.Steps.{IsExecuted}
 use Rattle.step_soundness.proofs.GivenLaws.{Gives, gives_bind, gives_this, gives_register}
@@ -56,12 +52,14 @@ use Rattle.ia32_semantics.proofs.EffectLemmas.{or_false_left}
 use Rattle.step_soundness.proofs.QuietLaws.{no_warnings, no_reasons, stack_kept, target_known}
 use Rattle.step_soundness.proofs.RowLaws.{Has, read_gives, spelt_value}
 use Rattle.step_soundness.proofs.StoreLaws.{read_back, number_back, saved_bytes}
+use Rattle.slice_soundness.proofs.ReturnLemmas.{same_first}
 use Rattle.call_soundness.specs.Calls.{IsCalled}
+use Rattle.step_soundness.proofs.WriteLaws.{number_within, stored_within, or_end}
 use Rattle.call_soundness.specs.Maps.{IsListed}
 use Rattle.call_soundness.proofs.CallLaws.{called_states_stand}
 use Rattle.call_soundness.proofs.StackLaws.{IsAtCall, at_call}
 use Rattle.call_soundness.proofs.StayLaws.{listed_map}
-use Rattle.call_soundness.proofs.TargetLaws.{IsFollowed, target_followed}
+use Rattle.call_soundness.proofs.TargetLaws.{target_followed}
 
 -- return slots at or above an address hold what they held
 pub kept_slots : (image : Image) (m n : Bytes) (slot limit : ℕ) → ((y : ℕ) → (is_in_stack slot y ≡ true → limit ≤ y) → n y ≡ m y)
@@ -100,6 +98,12 @@ pub record Enters (image : Image) (settings : Settings) (states : States) (n : N
   pub next : AbsState
   pub listed : IsListed (at_node (callee_node states.lane o.before.eip new.callee n) next) (successors image settings states n a)
   pub stands : StandsFor states.lane next o.after
+  -- the bytes below the end of the return slot
+  pub taken : (y : ℕ) → is_in_stack o.before.slot y ≡ true → y < new.base + 4 → writes_of o (AtByte y) ≡ false → forgets o (AtByte y) ≡ true
+  -- no byte of the caller's return slot, or above
+  pub under : (newest : Activation) (others : List Activation) → o.before.activations ≡ newest ∷ others → new.base + 4 ≤ newest.base
+  pub written : (y : ℕ) → writes_of o (AtByte y) ≡ true → y < new.base + 4
+  pub forgotten : (y : ℕ) → forgets o (AtByte y) ≡ true → y < new.base
 
 module _ (image : Image) (settings : Settings) (states : States) (n : Node) (a : AbsState) (i : Instr) (o : Occurrence Act)
     (h : IsExecuted image states.lane a n.context.proc states.cells i o) (content : content_at image settings n.at ≡ Instruction i) (calls : i.op ≡ op.Call)
@@ -334,6 +338,24 @@ module _ (image : Image) (settings : Settings) (states : States) (n : Node) (a :
         ∙ ap (λ c. is_call c && list_any (λ t. t == e.to) (targets (view_of a states.cells p) i.dst)) calls
         ∙ listed_any e.to (targets (view_of a states.cells p) i.dst) e.target
 
+    -- -- The bytes below the end of the slot
+
+    slot_written : (y : ℕ) → at ≤ y → y < at + 4 → writes_of o (AtByte y) ≡ true
+    slot_written y from to =
+        let near : at + (y - at) ≡ y = omega (arith, from) in
+        writes_are image o h.step (AtByte y) ∙ ap (λ (x : Outcome). effects_write x.effects (AtByte y)) e.is
+        ∙ or_left _ _ (subst (λ z. is_of_bytes at (number_bytes 4 next) z ≡ true) near (number_within 4 at next (y - at) (omega (arith, from, to))))
+
+    slot_forgotten : (y : ℕ) → forgets o (AtByte y) ≡ (is_in_stack o.before.slot y && nat_lt y at)
+    slot_forgotten y = forgets_are image o h.step y ∙ ap (λ (x : Outcome). is_forgotten x o.before y) e.is
+
+    taken_here : (y : ℕ) → is_in_stack o.before.slot y ≡ true → y < at + 4 → writes_of o (AtByte y) ≡ false → forgets o (AtByte y) ≡ true
+    taken_here y stack to unwritten =
+        ⊎_elim
+        (λ (lt : y < at). slot_forgotten y ∙ and_from (is_in_stack o.before.slot y) (nat_lt y at) stack (lt-ltb y at lt))
+        (λ (le : at ≤ y). absurd (true≢false (sym (slot_written y le to) ∙ unwritten)))
+        (cases_lt y at)
+
     enters_by : Enters image settings states n a o
     enters_by =
         record {
@@ -346,6 +368,10 @@ module _ (image : Image) (settings : Settings) (states : States) (n : Node) (a :
           next = state_after;
           listed = subst (λ x. IsListed (at_node (callee_node states.lane x e.to n) state_after) (successors image settings states n a)) here listed_here;
           stands = stands_after;
+          taken = taken_here;
+          under = λ newest others is. subst (λ (x : Activation). at + 4 ≤ x.base) (same_first h.known.newest newest h.known.others others (sym h.known.activations ∙ is)) slot.below;
+          written = λ y w. (stored_within 4 at next y (or_end _ (sym (ap (λ (x : Outcome). effects_write x.effects (AtByte y)) e.is) ∙ sym (writes_are image o h.step (AtByte y)) ∙ w))).1;
+          forgotten = λ y f. ltb-true y at (and_parts (is_in_stack o.before.slot y) (nat_lt y at) (sym (slot_forgotten y) ∙ f)).1;
         }
 
   pub call_enters : Enters image settings states n a o

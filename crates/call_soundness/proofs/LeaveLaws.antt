@@ -1,65 +1,46 @@
 -- Returns: the stack pointer is that with which the activation began, and control goes on behind the call.
-use Rattle.std.proofs.Common.{◌≡◌, ◌⊎◌, inl, inr, ℕ, ◌+◌, ◌-◌, ◌%◌, ◌^◌, ◌<◌, ◌≤◌, ◌==◌, ◌&&◌, ◌||◌, Bool, true, false, not, cond, List, [], ◌∷◌, ◌++◌, Option, Some, None, refl, sym, ◌∙◌, ap, subst, arith, lit<, pos, negsuc}
-use Rattle.std.specs.Prelude.{nat_lt, ℤ, ◌+ℤ◌, ◌-ℤ◌, ◌≤ℤ◌, int_lt, map, filter, is_some}
+use Rattle.std.proofs.Common.{◌≡◌, ℕ, ◌+◌, ◌%◌, ◌^◌, ◌<◌, ◌≤◌, ◌||◌, Bool, true, false, not, cond, List, [], ◌∷◌, Option, Some, None, refl, sym, ◌∙◌, ap, subst, arith, pos, ◌&&◌}
+use Rattle.std.specs.Prelude.{◌+ℤ◌, ◌-ℤ◌, ◌≤ℤ◌, is_some, nat_lt}
 use Rattle.std.specs.Option.{option_map}
-use Rattle.std.specs.Ordering.{int_eq}
-use Rattle.std.specs.List.{list_any, flat_map}
 use Rattle.std.proofs.lemmas.Int.{ints}
-use Rattle.std.proofs.lemmas.Bool.{false≢true, true≢false, cond_both, and_from, eq-eqb, le-ltb}
-use Rattle.std.proofs.lemmas.Bool.Decides.{Decides-int_eq}
-use Rattle.std.proofs.lemmas.Cmp.{on_equiv, nat_list_eq_equiv}
+use Rattle.std.proofs.lemmas.Bool.{true≢false, and_from}
 use Rattle.std.proofs.lemmas.Option.{none-some, same_Some}
 use Rattle.image_map.specs.declared.image.Image.{Image}
 use Rattle.image_map.specs.declared.region.Activation.{Activation}
 use Rattle.image_map.specs.declared.region.Settings.{Settings}
 use Rattle.ia32_types.specs.declared.Instr.{Instr}
-use Rattle.ia32_types.specs.declared.Op.{Op}
 use Rattle.ia32_types.specs.declared.Op.TheVariants as op
 use Rattle.ia32_types.specs.declared.Operand.{Operand}
 use Rattle.ia32_types.specs.declared.Operand.TheVariants as operand
 use Rattle.ia32_types.specs.declared.Width.TheVariants.{D32}
 use Rattle.ia32_types.specs.Operands.{HasOperands, IsReturn}
-use Rattle.ia32_semantics.specs.CallModel.{IsWhole, AreActivations}
 use Rattle.ia32_semantics.specs.Effects.{with_part}
 use Rattle.ia32_semantics.specs.Machine.{Occurrence}
 use Rattle.ia32_semantics.specs.Operands as machine_operands
 use Rattle.ia32_semantics.specs.Operands.{stored_word}
 use Rattle.ia32_semantics.specs.Outcome as outcomes
-use Rattle.ia32_semantics.specs.Outcome.{Outcome, made, is_any, is_in_stack}
+use Rattle.ia32_semantics.specs.Outcome.{Outcome, made, is_any, is_in_stack, is_forgotten}
 use Rattle.ia32_semantics.specs.Reading.{gives, ◌>>=◌, outcome}
 use Rattle.ia32_semantics.specs.Rows as rows
 use Rattle.ia32_semantics.specs.Rows.{next_place}
-use Rattle.ia32_semantics.specs.State.{State, bytes_at, little_endian, word_at}
-use Rattle.ia32_semantics.specs.Step.{Act, HALT, Step, act_row, IsPlaceAfter, is_single, returns_to_halt}
+use Rattle.ia32_semantics.specs.State.{State, bytes_at, little_endian, word_at, AtByte}
+use Rattle.ia32_semantics.specs.Step.{Act, act_row, IsPlaceAfter, returns_to_halt, forgets}
 use Rattle.ia32_semantics.proofs.EffectLemmas.{or_false_left, or_false_right}
-use Rattle.ia32_semantics.proofs.StepLemmas.{steps_stay_laid_out}
-use Rattle.alocs.proofs.CellLemmas.{int_lt_false}
-use Rattle.strided.specs.Interval.{IsMember}
+use Rattle.ia32_semantics.proofs.StepLemmas.{steps_stay_laid_out, forgets_are}
 use Rattle.call_strings.specs.declared.context.Node.{Node}
-use Rattle.call_strings.specs.NodeKeys.{same_is}
-use Rattle.call_strings.specs.Nodes.{pushed, same_node, numbers_of}
-use Rattle.abs_semantics.specs.declared.parts.Link.{Link}
 use Rattle.abs_semantics.specs.States.{AbsState}
-use Rattle.abs_semantics.specs.StandsFor.{StandsFor, IsLinked}
-use Rattle.abs_semantics.proofs.LevelLemmas.{IsAmong, among_map, among_filter, among_flat}
-use Rattle.abs_semantics.proofs.StackLemmas.{base_bounds}
-use Rattle.abs_steps.specs.Calls as abs_calls
-use Rattle.abs_steps.specs.Places.{Content, Instruction, content_at}
+use Rattle.abs_semantics.specs.StandsFor.{IsLinked}
+use Rattle.abs_steps.specs.Places.{Instruction, content_at}
 use Rattle.abs_steps.specs.Rows.{view_of}
-use Rattle.abs_steps.specs.Successors.{Placed, States, at_node, moved_to, callee_node, stack_offset, extra_of, is_at_slot, is_zero_offset, takes_too_much, young_links, calls_at, place_behind, goes_back_to, gone_back_to, returned_by, returned_each, returned_from, instruction_successors, successors_by, successors}
+use Rattle.abs_steps.specs.Successors.{States, stack_offset, extra_of, is_at_slot, takes_too_much, returned_each, instruction_successors, successors_by, successors}
 use Rattle.abs_steps.specs.Warnings.{loses_stack}
 use Rattle.step_soundness.specs.Steps.{IsExecuted}
-use Rattle.step_soundness.proofs.AdvanceLaws.{place_word}
 use Rattle.step_soundness.proofs.GivenLaws.{Gives, gives_bind, gives_this, gives_register}
 use Rattle.step_soundness.proofs.OperandLaws.{number_outcome}
 use Rattle.step_soundness.proofs.QuietLaws.{stack_kept}
 use Rattle.call_soundness.specs.Calls.{IsReturned}
-use Rattle.call_soundness.specs.Maps.{state_in, IsListed}
-use Rattle.call_soundness.proofs.ContentLaws.{fetched_stands}
-use Rattle.call_soundness.proofs.EnterLaws.{kept_slots}
 use Rattle.call_soundness.proofs.BackLaws.{Leaves, HasCaller, has_caller, kept_above, taken_less, is_zero, goes_back}
 use Rattle.call_soundness.proofs.StackLaws.{esp_near}
-use Rattle.call_soundness.proofs.StayLaws.{listed_among}
 
 -- the word at an address
 pub word_gives : (s : State) (at : ℕ) → Gives s (λ byte. Unit {0}) (λ w. word_at s.memory at ≡ Some w) (stored_word at)
@@ -74,7 +55,7 @@ word_gives s at =
     by words rest w (Some bytes) g = ap (λ (x : ℕ × List ℕ). Some x.0) (same_Some (little_endian bytes, words) (w, rest) g)
 
 module _ (image : Image) (settings : Settings) (states : States) (n : Node) (a : AbsState) (i : Instr) (o : Occurrence Act)
-    (h : IsExecuted image states.lane a n.context.proc states.cells i o) (content : content_at image settings n.at ≡ Instruction i) (returns : i.op ≡ op.Ret) (not_last : returns_to_halt o ≡ false) where
+    (h : IsExecuted image states.lane a n.context.proc states.cells i o) (content : content_at image settings n.at ≡ Instruction i) (returns : i.op ≡ op.Ret) where
   abbrev p : ℕ
   p = n.context.proc
 
@@ -134,7 +115,7 @@ module _ (image : Image) (settings : Settings) (states : States) (n : Node) (a :
   few_taken : takes_too_much p extra a ≡ false
   few_taken = or_false_right _ _ kept
 
-  sp_is : o.before.registers 4 ≡ h.known.newest.base
+  pub sp_is : o.before.registers 4 ≡ h.known.newest.base
   sp_is =
       let e : pos (o.before.registers 4) ≡ pos h.known.newest.base +ℤ pos 0 =
       esp_near image states.lane p a o.before h.known h.canonical (pos 0) (is_zero (stack_offset p a) at_slot) (omega (arith, ints)) (omega (arith, ints)) in
@@ -149,67 +130,84 @@ module _ (image : Image) (settings : Settings) (states : States) (n : Node) (a :
   eip_after : o.after.eip ≡ done_reads.place % 4294967296
   eip_after = ap (λ (t : State). t.eip) h.step.after ∙ ap (λ (x : Outcome). (made x o.before).eip) done_reads.is
 
-  caller : HasCaller image o h.known.whole h.known.newest h.known.others h.known.activations done_reads.place (sym (ap (word_at o.before.memory) sp_is) ∙ done_reads.is_place) eip_after
-  caller = has_caller image o h.known.whole h.known.newest h.known.others h.known.activations done_reads.place (sym (ap (word_at o.before.memory) sp_is) ∙ done_reads.is_place) eip_after not_last
+  -- -- Also where it is the last of a run
 
-  -- -- With a caller
+  pub returning_is : (place : ℕ) × (h.step.done ≡ rows.returning [] (rows.risen (o.before.registers 4) (4 + extra_of i.dst)) place)
+  returning_is = (done_reads.place, done_reads.is)
 
-  module _ (parent : Activation) (older : List Activation) (has_parent : h.known.others ≡ parent ∷ older) (high_base : parent.base ≤ o.before.slot) (behind : IsPlaceAfter image h.known.newest.site o.after.eip) where
-    abbrev ending : Activation
-    ending = h.known.newest
+  -- it takes no bytes of the caller's caller
+  pub below_parent : (parent : Activation) (older : List Activation) → h.known.others ≡ parent ∷ older → h.known.newest.base + 4 + extra_of i.dst ≤ parent.base
+  below_parent parent older has_parent =
+      let split : o.before.activations ≡ h.known.newest ∷ parent ∷ older = h.known.activations ∙ ap (λ ys. h.known.newest ∷ ys) has_parent in
+      let less : ((pos h.known.newest.base -ℤ pos parent.base) +ℤ pos (4 + extra)) ≤ℤ pos 0 =
+      taken_less p parent.callee (pos h.known.newest.base -ℤ pos parent.base) extra a.links
+      (subst (λ q. IsLinked a.links q false parent.callee (pos h.known.newest.base -ℤ pos parent.base)) h.known.runs (h.known.stands.links [] older h.known.newest parent split)) few_taken in
+      omega (arith, ints)
 
-    split : o.before.activations ≡ ending ∷ parent ∷ older
-    split = h.known.activations ∙ ap (λ ys. h.known.newest ∷ ys) has_parent
+  -- -- Where it isn't
 
-    below : ending.base + 4 + extra ≤ parent.base
-    below =
-        let less : ((pos ending.base -ℤ pos parent.base) +ℤ pos (4 + extra)) ≤ℤ pos 0 =
-        taken_less p parent.callee (pos ending.base -ℤ pos parent.base) extra a.links
-        (subst (λ q. IsLinked a.links q false parent.callee (pos ending.base -ℤ pos parent.base)) h.known.runs (h.known.stands.links [] older ending parent split)) few_taken in
-        omega (arith, ints)
+  module _ (not_last : returns_to_halt o ≡ false) where
+    caller : HasCaller image o o.before h.known.whole refl h.known.newest h.known.others h.known.activations done_reads.place (sym (ap (word_at o.before.memory) sp_is) ∙ done_reads.is_place) eip_after
+    caller = has_caller image o o.before h.known.whole refl h.known.newest h.known.others h.known.activations done_reads.place (sym (ap (word_at o.before.memory) sp_is) ∙ done_reads.is_place) eip_after not_last
 
-    risen_is : rows.risen (o.before.registers 4) (4 + extra) ≡ ending.base + 4 + extra
-    risen_is =
-        let limit = below in
-        let high : parent.base ≤ o.before.slot = high_base in
-        let under : o.before.slot + 2 ^ 16 ≤ 0xC0000000 = h.known.whole.laid_out.slot.below in
-        let sp : o.before.registers 4 ≡ h.known.newest.base = sp_is in
-        let same : o.before.registers 4 + (4 + extra) ≡ h.known.newest.base + 4 + extra = omega (arith, sp) in
-        let small : h.known.newest.base + 4 + extra < 4294967296 = omega (arith, limit, high, under) in
-        ap (λ k. k % 4294967296) same ∙ (let once : (h.known.newest.base + 4 + extra) % 4294967296 ≡ h.known.newest.base + 4 + extra = omega (arith, small) in once)
+    -- -- With a caller
 
-    bytes_kept : (y : ℕ) → (is_in_stack o.before.slot y ≡ true → ending.base + 4 + extra ≤ y) → o.after.memory y ≡ o.before.memory y
-    bytes_kept y above = memory_others y (λ f. subst (λ k. k ≤ y) (sym risen_is) (above f))
+    module _ (parent : Activation) (older : List Activation) (has_parent : h.known.others ≡ parent ∷ older) (high_base : parent.base ≤ o.before.slot) (behind : IsPlaceAfter image h.known.newest.site o.after.eip) where
+      abbrev ending : Activation
+      ending = h.known.newest
 
-    is_returned : IsReturned o.before o.after ending parent older extra
-    unfolding with_part
-    is_returned =
-        record {
-          before = split;
-          activations = ap (λ (t : State). t.activations) h.step.after ∙ ap (λ (x : Outcome). (made x o.before).activations) done_reads.is ∙ ap (outcomes.moved outcomes.leaves) split;
-          allocs = ap (λ (t : State). t.allocs) h.step.after ∙ ap (λ (x : Outcome). (made x o.before).allocs) done_reads.is;
-          slot = ap (λ (t : State). t.slot) h.step.after ∙ ap (λ (x : Outcome). (made x o.before).slot) done_reads.is;
-          flags = ap (λ (t : State). t.flags) h.step.after ∙ ap (λ (x : Outcome). (made x o.before).flags) done_reads.is;
-          registers = λ r other.
-              ap (λ (t : State). t.registers r) h.step.after ∙ ap (λ (x : Outcome). (made x o.before).registers r) done_reads.is
-              ∙ ap (λ b. cond b (rows.risen (o.before.registers 4) (4 + extra) % 4294967296) (o.before.registers r)) other;
-          esp = ap (λ (t : State). t.registers 4) h.step.after ∙ ap (λ (x : Outcome). (made x o.before).registers 4) done_reads.is
-              ∙ (let once : rows.risen (o.before.registers 4) (4 + extra) % 4294967296 ≡ rows.risen (o.before.registers 4) (4 + extra) = omega arith in once) ∙ risen_is;
-          bytes = bytes_kept;
-        }
+      split : o.before.activations ≡ ending ∷ parent ∷ older
+      split = h.known.activations ∙ ap (λ ys. h.known.newest ∷ ys) has_parent
 
-    -- -- The successors
+      below : ending.base + 4 + extra ≤ parent.base
+      below = below_parent parent older has_parent
 
-    all_successors : successors image settings states n a ≡ returned_each image settings states n extra a
-    unfolding successors successors_by instruction_successors
-    all_successors =
-        ap (λ c. successors_by c image settings states n a) content ∙ ap (λ c. instruction_successors c image settings states n i a) returns
-        ∙ ap (λ b. cond b (returned_each image settings states n extra a) []) (and_from (is_at_slot p a) (not (takes_too_much p extra a)) at_slot (ap not few_taken))
+      risen_is : rows.risen (o.before.registers 4) (4 + extra) ≡ ending.base + 4 + extra
+      risen_is =
+          let limit = below in
+          let high : parent.base ≤ o.before.slot = high_base in
+          let under : o.before.slot + 2 ^ 16 ≤ 0xC0000000 = h.known.whole.laid_out.slot.below in
+          let sp : o.before.registers 4 ≡ h.known.newest.base = sp_is in
+          let same : o.before.registers 4 + (4 + extra) ≡ h.known.newest.base + 4 + extra = omega (arith, sp) in
+          let small : h.known.newest.base + 4 + extra < 4294967296 = omega (arith, limit, high, under) in
+          ap (λ k. k % 4294967296) same ∙ (let once : (h.known.newest.base + 4 + extra) % 4294967296 ≡ h.known.newest.base + 4 + extra = omega (arith, small) in once)
 
-    leaves_by : Leaves image settings states n a o
-    leaves_by =
-        goes_back image settings states n a a o o.before ending parent older extra h.known.image_is h.known.whole h.known.stands h.known.runs split is_returned
-        (steps_stay_laid_out image o h.step h.known.whole.laid_out) below behind all_successors
+      bytes_kept : (y : ℕ) → (is_in_stack o.before.slot y ≡ true → ending.base + 4 + extra ≤ y) → o.after.memory y ≡ o.before.memory y
+      bytes_kept y above = memory_others y (λ f. subst (λ k. k ≤ y) (sym risen_is) (above f))
 
-  pub return_leaves : Leaves image settings states n a o
-  return_leaves = leaves_by caller.parent caller.older caller.are caller.high caller.behind
+      is_returned : IsReturned o.before o.after ending parent older extra
+      unfolding with_part
+      is_returned =
+          record {
+            before = split;
+            activations = ap (λ (t : State). t.activations) h.step.after ∙ ap (λ (x : Outcome). (made x o.before).activations) done_reads.is ∙ ap (outcomes.moved outcomes.leaves) split;
+            allocs = ap (λ (t : State). t.allocs) h.step.after ∙ ap (λ (x : Outcome). (made x o.before).allocs) done_reads.is;
+            slot = ap (λ (t : State). t.slot) h.step.after ∙ ap (λ (x : Outcome). (made x o.before).slot) done_reads.is;
+            flags = ap (λ (t : State). t.flags) h.step.after ∙ ap (λ (x : Outcome). (made x o.before).flags) done_reads.is;
+            registers = λ r other.
+                ap (λ (t : State). t.registers r) h.step.after ∙ ap (λ (x : Outcome). (made x o.before).registers r) done_reads.is
+                ∙ ap (λ b. cond b (rows.risen (o.before.registers 4) (4 + extra) % 4294967296) (o.before.registers r)) other;
+            esp = ap (λ (t : State). t.registers 4) h.step.after ∙ ap (λ (x : Outcome). (made x o.before).registers 4) done_reads.is
+                ∙ (let once : rows.risen (o.before.registers 4) (4 + extra) % 4294967296 ≡ rows.risen (o.before.registers 4) (4 + extra) = omega arith in once) ∙ risen_is;
+            bytes = bytes_kept;
+          }
+
+      forgotten : (y : ℕ) → forgets o (AtByte y) ≡ (is_in_stack o.before.slot y && nat_lt y (ending.base + 4 + extra))
+      forgotten y =
+          forgets_are image o h.step y ∙ ap (λ (x : Outcome). is_forgotten x o.before y) done_reads.is ∙ ap (λ k. is_in_stack o.before.slot y && nat_lt y k) risen_is
+
+      -- -- The successors
+
+      all_successors : successors image settings states n a ≡ returned_each image settings states n extra a
+      unfolding successors successors_by instruction_successors
+      all_successors =
+          ap (λ c. successors_by c image settings states n a) content ∙ ap (λ c. instruction_successors c image settings states n i a) returns
+          ∙ ap (λ b. cond b (returned_each image settings states n extra a) []) (and_from (is_at_slot p a) (not (takes_too_much p extra a)) at_slot (ap not few_taken))
+
+      leaves_by : Leaves image settings states n a o
+      leaves_by =
+          goes_back image settings states n a a o o.before ending parent older extra h.known.image_is h.known.whole h.known.stands h.known.runs split is_returned
+          (steps_stay_laid_out image o h.step h.known.whole.laid_out) below behind forgotten all_successors
+
+    pub return_leaves : Leaves image settings states n a o
+    return_leaves = leaves_by caller.parent caller.older caller.are caller.high caller.behind

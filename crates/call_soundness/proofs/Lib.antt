@@ -11,7 +11,13 @@ pub mod StackLaws
 pub mod EnterLaws
 pub mod BackLaws
 pub mod LeaveLaws
+pub mod AnswerLaws
 pub mod ExternLaws
+pub mod AnswerAccesses
 pub mod AllocLaws
+pub mod AllocRows
+pub mod AnswerRows
 pub mod AccessLaws
 pub mod RowLaws
+pub mod ByteLaws
+pub mod SlotLaws

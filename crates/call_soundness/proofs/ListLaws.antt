@@ -1,5 +1,5 @@
 -- Lists of procedures, links and numbers of regions: what stays when something is put among them.
-use Rattle.std.proofs.Common.{◌≡◌, ◌⊎◌, inl, inr, ℕ, ◌==◌, ◌&&◌, ◌||◌, Bool, true, false, not, cond, List, [], ◌∷◌, ◌++◌, Option, Some, None, refl, sym, ◌∙◌, ap, subst}
+use Rattle.std.proofs.Common.{◌≡◌, ◌⊎◌, inl, inr, ℕ, ◌==◌, Bool, true, false, not, cond, List, [], ◌∷◌, Option, Some, None, refl, sym, ◌∙◌, ap, subst}
 use Rattle.std.specs.Prelude.{nat_lt, map, filter, ℤ}
 use Rattle.std.proofs.lemmas.Bool.{false≢true, true≢false, cond_both, eqb-true, eq-eqb, or_cases, or_left, or_right, and_parts, and_from}
 use Rattle.std.proofs.lemmas.Option.{none-some}
@@ -12,7 +12,7 @@ use Rattle.vset.specs.declared.part.Both.TheVariants.{Joined}
 use Rattle.abs_semantics.specs.declared.parts.Known.{Known}
 use Rattle.abs_semantics.specs.declared.parts.Link.{Link}
 use Rattle.abs_semantics.specs.States.{has_procedure, known_of}
-use Rattle.abs_semantics.specs.Joins.{with_number, same_link, link_before, offsets_of, with_link, links_of, agreed, put_known, with_known}
+use Rattle.abs_semantics.specs.Joins.{with_number, same_link, link_before, offsets_of, with_link, links_of, put_known}
 use Rattle.abs_semantics.specs.StandsFor.{IsLinked}
 use Rattle.abs_semantics.proofs.BelowLemmas.{same_linked}
 use Rattle.abs_steps.specs.Calls.{is_of_age, links_as, without_young, with_only}
@@ -157,14 +157,3 @@ only_same r None ks n e = absurd (none_left r ks n e)
 only_same r (Some m) ks n e =
     put_known_value (λ o. o ≡ Some n → Some m ≡ Some n) r (record { region = r; number = m }) (filter (λ (k : Known). not (same_region k.region r)) ks)
     (λ f. absurd (none_left r ks n f)) (λ same f. f) e
-
-pub agreed_left : (o p : Option ℕ) (n : ℕ) → agreed o p ≡ Some n → o ≡ Some n
-agreed_left None p n e = absurd (none-some n e)
-agreed_left (Some m) None n e = absurd (none-some n e)
-agreed_left (Some m) (Some k) n e = cond_both (m == k) (Some m) None (λ o. o ≡ Some n → Some m ≡ Some n) (λ _ f. f) (λ _ f. absurd (none-some n f)) e
-
-pub agreed_right : (o p : Option ℕ) (n : ℕ) → agreed o p ≡ Some n → p ≡ Some n
-agreed_right None p n e = absurd (none-some n e)
-agreed_right (Some m) None n e = absurd (none-some n e)
-agreed_right (Some m) (Some k) n e =
-    cond_both (m == k) (Some m) None (λ o. o ≡ Some n → Some k ≡ Some n) (λ same f. ap (λ x. Some x) (sym (eqb-true m k same)) ∙ f) (λ _ f. absurd (none-some n f)) e

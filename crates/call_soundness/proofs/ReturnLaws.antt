@@ -1,20 +1,17 @@
 -- After a return the abstract state after the abstract return stands for the state.
-use Rattle.std.proofs.Common.{◌≡◌, ◌⊎◌, inl, inr, ℕ, ◌+◌, ◌-◌, ◌%◌, ◌^◌, ◌<◌, ◌≤◌, ◌==◌, ◌&&◌, ◌||◌, Bool, true, false, not, cond, List, [], ◌∷◌, ◌++◌, Option, Some, None, refl, sym, ◌∙◌, ap, subst, arith, lit<, pos, negsuc}
-use Rattle.std.specs.Prelude.{nat_lt, map, filter, ℤ, ◌+ℤ◌, ◌-ℤ◌, ◌≤ℤ◌, int_lt, FitsSigned}
+use Rattle.std.proofs.Common.{◌≡◌, ◌⊎◌, inl, inr, ℕ, ◌+◌, ◌%◌, ◌^◌, ◌<◌, ◌≤◌, ◌==◌, ◌&&◌, ◌||◌, Bool, true, false, not, cond, List, [], ◌∷◌, ◌++◌, Some, None, refl, sym, ◌∙◌, ap, subst, arith, pos}
+use Rattle.std.specs.Prelude.{map, filter, ℤ, ◌+ℤ◌, ◌-ℤ◌, ◌≤ℤ◌, int_lt, FitsSigned}
 use Rattle.std.specs.Int.{w32}
 use Rattle.std.specs.List.{list_any}
 use Rattle.std.proofs.lemmas.Int.{ints, int_wrap_fits}
-use Rattle.std.proofs.lemmas.Bool.{false≢true, true≢false, cond_both, eqb-true, eq-eqb, or_left, or_right, or_cases, and_parts, and_from}
-use Rattle.std.proofs.lemmas.Option.{none-some}
-use Rattle.image_map.specs.declared.image.Image.{Image}
+use Rattle.std.proofs.lemmas.Bool.{false≢true, true≢false, cond_both, eqb-true, eq-eqb, or_left, or_right, or_cases, and_from}
 use Rattle.image_map.specs.declared.region.Activation.{Activation}
 use Rattle.image_map.specs.declared.region.Cell.{Cell}
 use Rattle.image_map.specs.declared.region.RegionId.{RegionId}
 use Rattle.image_map.specs.declared.region.RegionId.TheVariants.{Frame, OldFrame}
 use Rattle.image_map.specs.Regions.{same_region}
-use Rattle.image_map.specs.Whole.{IsImage}
 use Rattle.image_map.proofs.OrderLaws.{same_region-equal, same_region-itself}
-use Rattle.ia32_semantics.specs.CallModel.{IsWhole, AreActivations}
+use Rattle.ia32_semantics.specs.CallModel.{AreActivations}
 use Rattle.ia32_semantics.specs.Outcome.{is_in_stack}
 use Rattle.ia32_semantics.specs.State.{State, put, bytes_at, little_endian}
 use Rattle.alocs.proofs.CellLemmas.{int_lt_false}
@@ -25,13 +22,13 @@ use Rattle.strided.proofs.SumLemmas.{member_one, member_add}
 use Rattle.vset.specs.declared.part.Part.{Part}
 use Rattle.vset.specs.Members.{HasValue, IsOffset, HasOffset}
 use Rattle.vset.specs.Operations.{part, drop_region, also}
-use Rattle.vset.specs.Values.{Values, Top, Parts, settled}
-use Rattle.vset.specs.World.{World, Thing, TheImage, ActivationAt, BlockAt, IsIn, base_of, region_of, is_called}
+use Rattle.vset.specs.Values.{Values, Top, Parts}
+use Rattle.vset.specs.World.{Thing, TheImage, ActivationAt, BlockAt, IsIn, base_of, region_of, is_called}
 use Rattle.vset.proofs.MemberLemmas.{settled_has}
 use Rattle.vset.proofs.OffsetLemmas.{drop_keeps, also_keeps, also_young}
 use Rattle.abs_semantics.specs.declared.parts.Link.{Link}
-use Rattle.abs_semantics.specs.States.{AbsState, HasCanonical, value_at, rebuilt, has_procedure, known_of}
-use Rattle.abs_semantics.specs.StandsFor.{StandsFor, world_of, IsAboveAll, Owns, IsCellOf, IsLinked, HasLinks, IsSized}
+use Rattle.abs_semantics.specs.States.{AbsState, value_at, has_procedure, known_of}
+use Rattle.abs_semantics.specs.StandsFor.{StandsFor, world_of, Owns, IsCellOf, IsLinked, HasLinks, IsSized}
 use Rattle.abs_semantics.proofs.CellLemmas.{rebuilt_value}
 use Rattle.abs_semantics.proofs.StackLemmas.{base_bounds}
 use Rattle.abs_semantics.proofs.StoreLemmas.{same_bytes}

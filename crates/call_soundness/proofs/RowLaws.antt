@@ -1,12 +1,13 @@
 -- Steps from states that a map knows, as rows of the map.
-use Rattle.std.proofs.Common.{◌≡◌, ◌⊎◌, inl, inr, ℕ, Bool, true, false, not, List, [], ◌∷◌, Option, Some, None, refl, sym, ◌∙◌, ap, subst}
+use Rattle.std.proofs.Common.{◌≡◌, ◌⊎◌, inl, inr, ℕ, Bool, true, false, not, List, [], ◌∷◌, length, None, refl, sym, ◌∙◌, ap, subst}
 use Rattle.std.proofs.lemmas.Bool.{false≢true, true≢false}
-use Rattle.std.proofs.lemmas.Option.{none-some, same_Some}
+use Rattle.std.proofs.lemmas.Option.{none-some, get_or_from_slice_get, slice_get_within}
 use Rattle.image_map.specs.declared.image.Image.{Image}
 use Rattle.image_map.specs.declared.region.Activation.{Activation}
 use Rattle.image_map.specs.declared.region.Kind.{Kind}
 use Rattle.image_map.specs.declared.region.Kind.TheVariants as kind
 use Rattle.image_map.specs.declared.region.Settings.{Settings}
+use Rattle.image_map.specs.CallModel.{AreSettings, IsKind}
 use Rattle.image_map.specs.Whole.{IsImage}
 use Rattle.ia32_types.specs.declared.Instr.{Instr}
 use Rattle.ia32_types.specs.declared.Op.{Op}
@@ -21,6 +22,9 @@ use Rattle.ia32_semantics.specs.Reading.{outcome}
 use Rattle.ia32_semantics.specs.Rows as rows
 use Rattle.ia32_semantics.specs.Step.{act_row, Act, Executes, Answers, Step, IsActAt, IsExternAt, completes, act_completes, operation_completes, kind_completes, returns_to_halt}
 use Rattle.abs_semantics.specs.States.{AbsState}
+use Rattle.abs_semantics.proofs.BelowLemmas.{below_stands}
+use Rattle.abs_semantics.proofs.FirstLemmas.{starts_have_states}
+use Rattle.ia32_semantics.proofs.RunLemmas.{starts_are_whole}
 use Rattle.abs_semantics.specs.Ownership.{IsKnown}
 use Rattle.abs_steps.specs.declared.warnings.WarnName.{WarnName}
 use Rattle.abs_steps.specs.Places.{Content, Extern, Instruction, content_at}
@@ -31,14 +35,15 @@ use Rattle.call_strings.specs.declared.context.Node.{Node}
 use Rattle.call_strings.specs.Nodes.{pushed}
 use Rattle.slice_soundness.specs.Nodes.{running, IsRooted}
 use Rattle.slice_soundness.specs.Maps.{here}
-use Rattle.slice_soundness.specs.Premises.{IsReady, Comes, GoesOn, Stays, Calls, Returns, Row}
+use Rattle.slice_soundness.specs.Premises.{IsReady, GoesOn, Stays, Calls, Returns, Row}
 use Rattle.step_soundness.specs.Steps.{is_plain, IsExecuted}
-use Rattle.call_soundness.specs.Maps.{IsListed, is_empty, warned_by, state_in, Drawn, map_of}
-use Rattle.call_soundness.specs.Laws.{is_staying, only_reads, is_told, is_told_of}
+use Rattle.call_soundness.specs.Maps.{IsListed, is_empty, warned_by, Drawn, map_of}
+use Rattle.call_soundness.specs.Externs.{returns_from, IsAnswered}
+use Rattle.call_soundness.specs.Laws.{is_staying, AbstractStepsAreMet}
 use Rattle.call_soundness.proofs.ContentLaws.{fetched_stands, extern_stands}
 use Rattle.call_soundness.proofs.EnterLaws.{Enters, call_enters}
 use Rattle.call_soundness.proofs.BackLaws.{Leaves}
-use Rattle.call_soundness.proofs.ExternLaws.{extern_leaves}
+use Rattle.call_soundness.proofs.AnswerRows.{answer_leaves}
 use Rattle.call_soundness.proofs.LeaveLaws.{return_leaves}
 use Rattle.call_soundness.proofs.StayLaws.{Moves, plain_moves, jump_moves, branch_moves}
 
@@ -119,19 +124,24 @@ module _ (image : Image) (settings : Settings) (states : States) (drawn : Drawn)
     extern_content : content_at image settings n.at ≡ Extern k
     extern_content = extern_stands image settings o.before.eip k extern_here.1
 
-    pub answers : only_reads k ≡ true → completes o ≡ false → Leaves image settings states n a o
-    answers reads not_last =
-        extern_leaves image settings states n a at k o
-        (record { known = known; canonical = ready.canonical.canonical; act = act; step = st; quiet = no_warning (Extern k) extern_content }) extern_content reads
-        (by k reads (sym (ap (λ c. act_completes c o) act) ∙ not_last))
+    pub answered_here : IsAnswered image states.lane a n.context.proc states.cells at k o
+    answered_here = record { known = known; canonical = ready.canonical.canonical; act = act; step = st; quiet = no_warning (Extern k) extern_content }
+
+    pub answered_kind : AreSettings (length image.externs) settings → IsKind k
+    answered_kind are =
+        subst IsKind (get_or_from_slice_get settings.kinds extern_here.1.number k k extern_here.1.kind) (are.kinds extern_here.1.number k (slice_get_within settings.kinds extern_here.1.number k extern_here.1.kind))
+
+    pub answers : AreSettings (length image.externs) settings → returns_from k ≡ true → completes o ≡ false → Leaves image settings states n a o
+    answers are returns not_last =
+        answer_leaves image settings states n a at o (by k returns (sym (ap (λ c. act_completes c o) act) ∙ not_last)) refl (sym extern_here.0) ready.canonical.unaligned k returns (answered_kind are) answered_here extern_content
       where
-        by : (c : Kind) → only_reads c ≡ true → kind_completes c o ≡ false → returns_to_halt o ≡ false
+        by : (c : Kind) → returns_from c ≡ true → kind_completes c o ≡ false → returns_to_halt o ≡ false
         by (kind.Pure j) e f = f
         by (kind.Reader j) e f = f
-        by kind.Alloc e f = absurd (false≢true e)
+        by kind.Alloc e f = f
         by kind.Stop e f = absurd (false≢true e)
         by kind.Unknown e f = absurd (false≢true e)
-        by (kind.Fills x l) e f = absurd (false≢true e)
+        by (kind.Fills x l) e f = f
 
   pub stays : Moves image settings states n a o → Stays (machine image settings) (map_of image settings states drawn) o
   stays m =
@@ -205,16 +215,17 @@ returning_row image settings states drawn o i is goes act return =
     let m = leaves image settings states drawn is o ready i act goes.comes.happens.act goes.comes.happens.step return goes.not_last in
     (returns image settings states drawn is o ready m, m.whole)
 
--- So is the answer of an extern that only reads.
-pub reading_row : (image : Image) (settings : Settings) (states : States) (drawn : Drawn) (o : Occurrence Act) (at : ℕ) (k : Kind) → IsImage image → GoesOn (machine image settings) (map_of image settings states drawn) o
-    → o.act ≡ Answers at k → only_reads k ≡ true → Returns (machine image settings) (map_of image settings states drawn) o × IsWhole image o.after
-reading_row image settings states drawn o at k is goes act reads =
+-- So is the answer of an extern that returns.
+pub answering_row : (image : Image) (settings : Settings) (states : States) (drawn : Drawn) (o : Occurrence Act) (at : ℕ) (k : Kind) → IsImage image → AreSettings (length image.externs) settings
+    → GoesOn (machine image settings) (map_of image settings states drawn) o → o.act ≡ Answers at k → returns_from k ≡ true → Returns (machine image settings) (map_of image settings states drawn) o × IsWhole image o.after
+answering_row image settings states drawn o at k is are goes act returns_ =
     let ready = goes.comes.ready in
-    let m = answers image settings states drawn is o ready at k act goes.comes.happens.act goes.comes.happens.step reads goes.not_last in
+    let m = answers image settings states drawn is o ready at k act goes.comes.happens.act goes.comes.happens.step are returns_ goes.not_last in
     (returns image settings states drawn is o ready m, m.whole)
 
--- All acts but strings, and externs that allocate or write.
-module _ (image : Image) (settings : Settings) (states : States) (drawn : Drawn) (o : Occurrence Act) (is : IsImage image) (goes : GoesOn (machine image settings) (map_of image settings states drawn) o) where
+-- All of them.
+module _ (image : Image) (settings : Settings) (states : States) (drawn : Drawn) (o : Occurrence Act) (is : IsImage image) (are : AreSettings (length image.externs) settings)
+    (goes : GoesOn (machine image settings) (map_of image settings states drawn) o) where
   abbrev Told : Type 0
   Told = Row (machine image settings) (map_of image settings states drawn) o × IsWhole image o.after
 
@@ -226,29 +237,38 @@ module _ (image : Image) (settings : Settings) (states : States) (drawn : Drawn)
       let step = goes.comes.happens.step in
       absurd (none-some _ (sym none ∙ ap (λ x. outcome (act_row x) o.before o.choices) (sym e) ∙ step.row))
 
-  instruction_row : (i : Instr) → o.act ≡ Executes i → (c : Op) → i.op ≡ c → is_told_of c ≡ true → Told
+  instruction_row : (i : Instr) → o.act ≡ Executes i → (c : Op) → i.op ≡ c → Told
   unfolding is_plain rows.row
-  instruction_row i act op.Call e t = let row = calling_row image settings states drawn o i is goes act e in (inr (inl row.0), row.1)
-  instruction_row i act op.Ret e t = let row = returning_row image settings states drawn o i is goes act e in (inr (inr row.0), row.1)
-  instruction_row i act op.Hlt e t = ends_here (Executes i) act (ap (λ c. operation_completes c o) e)
-  instruction_row i act op.Int3 e t = no_outcome (Executes i) act (ap (λ c. outcome (rows.row c i) o.before o.choices) e)
-  instruction_row i act op.Ud2 e t = no_outcome (Executes i) act (ap (λ c. outcome (rows.row c i) o.before o.choices) e)
-  instruction_row i act (op.Movs r) e t = absurd (false≢true t)
-  instruction_row i act (op.Stos r) e t = absurd (false≢true t)
-  instruction_row i act _ e t = let row = staying_row image settings states drawn o i is goes act (ap is_staying e) in (inl row.0, row.1)
+  instruction_row i act op.Call e = let row = calling_row image settings states drawn o i is goes act e in (inr (inl row.0), row.1)
+  instruction_row i act op.Ret e = let row = returning_row image settings states drawn o i is goes act e in (inr (inr row.0), row.1)
+  instruction_row i act op.Hlt e = ends_here (Executes i) act (ap (λ c. operation_completes c o) e)
+  instruction_row i act op.Int3 e = no_outcome (Executes i) act (ap (λ c. outcome (rows.row c i) o.before o.choices) e)
+  instruction_row i act op.Ud2 e = no_outcome (Executes i) act (ap (λ c. outcome (rows.row c i) o.before o.choices) e)
+  instruction_row i act _ e = let row = staying_row image settings states drawn o i is goes act (ap is_staying e) in (inl row.0, row.1)
 
-  extern_told : (at : ℕ) (k : Kind) → o.act ≡ Answers at k → is_told (Answers at k) ≡ true → Told
+  answer_row : (at : ℕ) (k : Kind) → o.act ≡ Answers at k → Told
   unfolding externs.extern_row
-  extern_told at (kind.Pure j) act t = let row = reading_row image settings states drawn o at (kind.Pure j) is goes act refl in (inr (inr row.0), row.1)
-  extern_told at (kind.Reader j) act t = let row = reading_row image settings states drawn o at (kind.Reader j) is goes act refl in (inr (inr row.0), row.1)
-  extern_told at kind.Alloc act t = absurd (false≢true t)
-  extern_told at kind.Stop act t = ends_here (Answers at kind.Stop) act refl
-  extern_told at kind.Unknown act t = no_outcome (Answers at kind.Unknown) act refl
-  extern_told at (kind.Fills b l) act t = absurd (false≢true t)
+  answer_row at kind.Stop act = ends_here (Answers at kind.Stop) act refl
+  answer_row at kind.Unknown act = no_outcome (Answers at kind.Unknown) act refl
+  answer_row at (kind.Pure j) act = let row = answering_row image settings states drawn o at (kind.Pure j) is are goes act refl in (inr (inr row.0), row.1)
+  answer_row at (kind.Reader j) act = let row = answering_row image settings states drawn o at (kind.Reader j) is are goes act refl in (inr (inr row.0), row.1)
+  answer_row at kind.Alloc act = let row = answering_row image settings states drawn o at kind.Alloc is are goes act refl in (inr (inr row.0), row.1)
+  answer_row at (kind.Fills b l) act = let row = answering_row image settings states drawn o at (kind.Fills b l) is are goes act refl in (inr (inr row.0), row.1)
 
-  pub told_row : is_told o.act ≡ true → Told
-  told_row told = by o.act refl told
+  pub each_row : Told
+  each_row = by o.act refl
     where
-      by : (c : Act) → o.act ≡ c → is_told c ≡ true → Told
-      by (Executes i) e t = instruction_row i e i.op refl t
-      by (Answers at k) e t = extern_told at k e t
+      by : (c : Act) → o.act ≡ c → Told
+      by (Executes i) e = instruction_row i e i.op refl
+      by (Answers at k) e = answer_row at k e
+
+-- All that the argument on slices asks of single steps.
+pub abstract_steps : AbstractStepsAreMet
+abstract_steps image settings states drawn is are =
+    record {
+      start_whole = λ s start. starts_are_whole image settings s start;
+      start_stands = λ s start. starts_have_states image settings states.lane s states.cells start;
+      below = λ a b s less form whole stands. below_stands states.lane a b s less stands;
+      whole = λ o goes. (each_row image settings states drawn o is are goes).1;
+      row = λ o goes. (each_row image settings states drawn o is are goes).0;
+    }

@@ -1,15 +1,13 @@
 -- The stack pointer at a call: how far it lies from the base of the newest activation, and the return slot below it.
-use Rattle.std.proofs.Common.{◌≡◌, ◌⊎◌, inl, inr, ℕ, ◌+◌, ◌-◌, ◌/◌, ◌%◌, ◌^◌, ◌<◌, ◌≤◌, Bool, true, false, cond, List, [], ◌∷◌, ◌++◌, Option, Some, None, refl, sym, ◌∙◌, ap, subst, arith, lit<, pos, negsuc}
-use Rattle.std.specs.Prelude.{ℤ, ◌+ℤ◌, ◌-ℤ◌, ◌≤ℤ◌, ◌<ℤ◌, int_lt, FitsSigned}
+use Rattle.std.proofs.Common.{◌≡◌, inl, inr, ℕ, ◌+◌, ◌^◌, ◌≤◌, Bool, true, false, cond, [], ◌∷◌, Option, Some, None, refl, ◌∙◌, ap, subst, arith, lit<, pos, negsuc}
+use Rattle.std.specs.Prelude.{ℤ, ◌+ℤ◌, ◌-ℤ◌, ◌≤ℤ◌, FitsSigned}
 use Rattle.std.specs.Int.{w32}
-use Rattle.std.specs.List.{list_any}
 use Rattle.std.proofs.Math.Nat.{zero-div}
 use Rattle.std.proofs.lemmas.Int.{ints}
-use Rattle.std.proofs.lemmas.Bool.{false≢true, cond_both}
+use Rattle.std.proofs.lemmas.Bool.{cond_both}
 use Rattle.std.proofs.lemmas.Option.{none-some}
 use Rattle.image_map.specs.declared.image.Image.{Image}
 use Rattle.image_map.specs.declared.region.Activation.{Activation}
-use Rattle.image_map.specs.declared.region.RegionId.{RegionId}
 use Rattle.image_map.specs.declared.region.RegionId.TheVariants.{Frame}
 use Rattle.image_map.specs.Regions.{same_region}
 use Rattle.image_map.proofs.OrderLaws.{same_region-equal}
@@ -17,7 +15,7 @@ use Rattle.ia32_semantics.specs.CallModel.{AreActivations}
 use Rattle.ia32_semantics.specs.State.{State}
 use Rattle.strided.specs.Concrete.{signed}
 use Rattle.strided.specs.Gcd.{gcd}
-use Rattle.strided.specs.Interval.{Interval, IsCanonical, IsMember, one}
+use Rattle.strided.specs.Interval.{Interval, IsCanonical, one}
 use Rattle.strided.specs.Operations as interval
 use Rattle.strided.specs.Operations.{only}
 use Rattle.strided.specs.Rows.{turned}
@@ -30,9 +28,8 @@ use Rattle.vset.specs.Members.{HasValue, IsInParts}
 use Rattle.vset.specs.Operations as values
 use Rattle.vset.specs.Operations.{part}
 use Rattle.vset.specs.Values.{Values, Top, Parts, CanonicalValues, says_nothing, settled}
-use Rattle.vset.specs.World.{Thing, ActivationAt, base_of}
+use Rattle.vset.specs.World.{ActivationAt, base_of}
 use Rattle.abs_semantics.specs.declared.parts.Reason.TheVariants.{UnknownWrite}
-use Rattle.abs_semantics.specs.declared.parts.Reason.{Reason}
 use Rattle.abs_semantics.specs.States.{AbsState, HasCanonical}
 use Rattle.abs_semantics.specs.StandsFor.{world_of}
 use Rattle.abs_semantics.specs.Ownership.{IsKnown}

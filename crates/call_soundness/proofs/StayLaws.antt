@@ -1,12 +1,10 @@
 -- Steps that stay in their context: plain instructions, jumps and branches.
-use Rattle.std.proofs.Common.{◌≡◌, ◌⊎◌, inl, inr, ℕ, ◌+◌, ◌%◌, ◌^◌, ◌<◌, ◌==◌, ◌&&◌, Bool, true, false, not, cond, List, [], ◌∷◌, ◌++◌, Option, Some, None, refl, sym, ◌∙◌, ap, subst, arith, lit<}
+use Rattle.std.proofs.Common.{◌≡◌, inl, inr, ℕ, ◌%◌, ◌^◌, ◌<◌, Bool, true, false, cond, List, [], ◌∷◌, ◌++◌, Option, Some, None, refl, sym, ◌∙◌, ap, subst, arith}
 use Rattle.std.specs.Prelude.{map}
-use Rattle.std.proofs.lemmas.Bool.{false≢true, true≢false, cond_both}
+use Rattle.std.proofs.lemmas.Bool.{false≢true}
 use Rattle.std.proofs.lemmas.Option.{none-some, same_Some}
 use Rattle.image_map.specs.declared.image.Image.{Image}
-use Rattle.image_map.specs.declared.region.Activation.{Activation}
 use Rattle.image_map.specs.declared.region.Settings.{Settings}
-use Rattle.image_map.specs.Whole.{IsImage}
 use Rattle.ia32_types.specs.declared.Instr.{Instr}
 use Rattle.ia32_types.specs.declared.Op.{Op}
 use Rattle.ia32_types.specs.declared.Op.TheVariants as op
@@ -15,42 +13,36 @@ use Rattle.ia32_types.specs.declared.Operand.TheVariants as operand
 use Rattle.ia32_types.specs.declared.Width.{Width}
 use Rattle.ia32_types.specs.declared.Width.TheVariants.{D32}
 use Rattle.ia32_types.specs.Operands.{HasOperands, IsValue, IsBelow, HasOne}
-use Rattle.ia32_types.proofs.InstructionLemmas.{spelled_instruction}
 use Rattle.ia32_semantics.specs.CallModel.{IsWhole, AreActivations}
 use Rattle.ia32_semantics.specs.Condition.{holds}
-use Rattle.ia32_semantics.specs.Effects.{Effect, all_changed}
-use Rattle.ia32_semantics.specs.Fetch.{IsFetched}
+use Rattle.ia32_semantics.specs.Effects.{all_changed}
 use Rattle.ia32_semantics.specs.Machine.{Occurrence}
 use Rattle.ia32_semantics.specs.Operands as machine_operands
 use Rattle.ia32_semantics.specs.Outcome.{Outcome, going}
-use Rattle.ia32_semantics.specs.Reading.{Reading, gives, ◌>>=◌, outcome}
+use Rattle.ia32_semantics.specs.Reading.{gives, ◌>>=◌, outcome}
 use Rattle.ia32_semantics.specs.Rows as rows
 use Rattle.ia32_semantics.specs.Rows.{next_place}
 use Rattle.ia32_semantics.specs.State.{State}
-use Rattle.ia32_semantics.specs.Step.{Act, Executes, Step, act_row}
+use Rattle.ia32_semantics.specs.Step.{Act, Step, act_row}
 use Rattle.ia32_semantics.proofs.StepLemmas.{steps_stay_laid_out}
 use Rattle.call_strings.specs.declared.context.Node.{Node}
-use Rattle.alocs.specs.Cells.{Division}
-use Rattle.abs_semantics.specs.States.{AbsState, HasCanonical}
+use Rattle.abs_semantics.specs.States.{AbsState}
 use Rattle.abs_semantics.specs.StandsFor.{StandsFor, flags_of}
-use Rattle.abs_semantics.specs.Ownership.{IsKnown}
 use Rattle.abs_semantics.proofs.LevelLemmas.{IsAmong}
-use Rattle.abs_steps.specs.Accesses as accesses
-use Rattle.abs_steps.specs.Places.{Content, Instruction, content_at, followed, targets}
+use Rattle.abs_steps.specs.Places.{Instruction, content_at, followed}
 use Rattle.abs_steps.specs.Rows.{post, view_of}
-use Rattle.abs_steps.specs.Successors.{Placed, States, at_node, moved_to, if_goes, side, branched_to, branched, jumped, next_to, instruction_successors, successors_by, successors}
+use Rattle.abs_steps.specs.Successors.{States, at_node, moved_to, if_goes, side, branched_to, branched, jumped, next_to, instruction_successors, successors_by, successors}
 use Rattle.abs_steps.specs.Warnings.{is_unresolved, has_unresolved}
-use Rattle.step_soundness.specs.Accessed.{IsAccessed}
-use Rattle.step_soundness.specs.Steps.{is_plain, IsExecuted, Advances}
+use Rattle.step_soundness.specs.Steps.{is_plain, IsExecuted}
 use Rattle.step_soundness.proofs.AdvanceLaws.{elsewhere_stands, after_is, place_word}
-use Rattle.step_soundness.proofs.GivenLaws.{Gives, gives_bind, gives_this, gives_none}
+use Rattle.step_soundness.proofs.GivenLaws.{Gives, gives_bind, gives_this}
 use Rattle.step_soundness.proofs.MoveRows.{condition_gives}
 use Rattle.step_soundness.proofs.QuietLaws.{target_known}
 use Rattle.step_soundness.proofs.RowLaws.{Has, read_gives, spelt_value}
 use Rattle.step_soundness.proofs.StepLaws.{plain_advances}
 use Rattle.call_soundness.specs.Maps.{IsListed, IsOfOne}
-use Rattle.call_soundness.proofs.BranchLaws.{HasSide, side_stands}
-use Rattle.call_soundness.proofs.TargetLaws.{IsFollowed, target_followed}
+use Rattle.call_soundness.proofs.BranchLaws.{side_stands}
+use Rattle.call_soundness.proofs.TargetLaws.{target_followed}
 
 -- a plain instruction has the next place as its one successor
 plain_next : (o : Op) → is_plain o ≡ true → (image : Image) (settings : Settings) (states : States) (n : Node) (i : Instr) (a : AbsState)
@@ -63,8 +55,6 @@ plain_next (op.Jcc c) e image settings states n i a = absurd (false≢true e)
 plain_next op.Hlt e image settings states n i a = absurd (false≢true e)
 plain_next op.Int3 e image settings states n i a = absurd (false≢true e)
 plain_next op.Ud2 e image settings states n i a = absurd (false≢true e)
-plain_next (op.Movs rep) e image settings states n i a = absurd (false≢true e)
-plain_next (op.Stos rep) e image settings states n i a = absurd (false≢true e)
 plain_next _ e image settings states n i a = refl
 
 -- -- Lists

@@ -1,6 +1,6 @@
 -- Where a jump or a call goes is among the targets of its node, where no warning stands there.
-use Rattle.std.proofs.Common.{◌≡◌, ◌⊎◌, inl, inr, ℕ, ◌+◌, ◌%◌, ◌^◌, ◌<◌, ◌==◌, ◌&&◌, Bool, true, false, not, cond, List, [], ◌∷◌, ◌++◌, Option, Some, None, refl, sym, ◌∙◌, ap, subst, arith, lit<, pos}
-use Rattle.std.specs.Prelude.{nat_lt, ℤ, map, filter, length, ◌+ℤ◌}
+use Rattle.std.proofs.Common.{◌≡◌, ◌⊎◌, inl, inr, ℕ, ◌+◌, ◌<◌, ◌==◌, ◌&&◌, Bool, true, false, not, cond, List, [], ◌∷◌, Option, Some, None, refl, sym, ◌∙◌, ap, subst, arith, pos}
+use Rattle.std.specs.Prelude.{nat_lt, map, filter, length, ◌+ℤ◌}
 use Rattle.std.specs.Option.{option_map}
 use Rattle.std.specs.List.{list_any, list_all}
 use Rattle.std.proofs.lemmas.Int.{ints}
@@ -18,13 +18,12 @@ use Rattle.strided.specs.Interval.{Interval, IsMember}
 use Rattle.strided.specs.Operations.{count}
 use Rattle.si_bits.specs.Concrete as concrete
 use Rattle.si_bits.proofs.SignLemmas.{word-number}
-use Rattle.vset.specs.declared.part.Part.{Part}
 use Rattle.vset.specs.Members.{HasValue}
 use Rattle.vset.specs.Values.{Values, Top, only_number}
 use Rattle.abs_alu.proofs.WordLemmas.{only_has}
 use Rattle.abs_semantics.specs.States.{AbsState, HasCanonical, value_at}
 use Rattle.abs_semantics.specs.StandsFor.{world_of}
-use Rattle.abs_semantics.specs.Ownership.{IsKnown, IsRange, IsOwnedAt}
+use Rattle.abs_semantics.specs.Ownership.{IsKnown, IsRange}
 use Rattle.abs_semantics.specs.Joins.{with_number, numbers_of}
 use Rattle.abs_semantics.specs.Touching.{members, cells_of_parts}
 use Rattle.abs_semantics.specs.Resolve.{resolve}

@@ -4,16 +4,13 @@ use Rattle.std.proofs.lemmas.Bool.{true≢false, eq-eqb, eqb-true}
 use Rattle.image_map.specs.declared.region.Activation.{Activation}
 use Rattle.image_map.specs.declared.region.Cell.{Cell}
 use Rattle.image_map.specs.declared.region.RegionId.{RegionId}
-use Rattle.image_map.specs.declared.region.RegionId.TheVariants.{Global, Frame, OldFrame, Heap, OldHeap}
-use Rattle.ia32_semantics.specs.declared.state.Allocation.{Allocation}
+use Rattle.image_map.specs.declared.region.RegionId.TheVariants.{Frame, OldFrame, Heap, OldHeap}
 use Rattle.ia32_semantics.specs.State.{State}
 use Rattle.vset.specs.World.{World, Thing, TheImage, ActivationAt, BlockAt, IsIn, base_of, region_of, is_called, has_key, key_of}
+use Rattle.slice_soundness.proofs.ReturnLemmas.{same_first}
 use Rattle.abs_semantics.specs.States.{AbsState, has_procedure}
 use Rattle.abs_semantics.specs.StandsFor.{StandsFor, world_of}
 use Rattle.abs_steps.specs.Calls.{as_of}
-
-pub head_is : (x y : Activation) (xs ys : List Activation) → x ∷ xs ≡ y ∷ ys → x ≡ y
-head_is x y xs ys e = cc
 
 pub tail_is : (x y : Activation) (xs ys : List Activation) → x ∷ xs ≡ y ∷ ys → xs ≡ ys
 tail_is x y xs ys e = cc
@@ -46,10 +43,10 @@ module _ (new : Activation) where
     which (BlockAt before x later) h = inr (BlockAt before x later, (sym allocs ∙ h.0, h.1), refl)
     which (ActivationAt [] x older) h =
         let both : new ∷ v.activations ≡ x ∷ older = sym grown ∙ h in
-        inl (λ i. ActivationAt [] (sym (head_is new x v.activations older both) i) (sym (tail_is new x v.activations older both) i))
+        inl (λ i. ActivationAt [] (sym (same_first new x v.activations older both) i) (sym (tail_is new x v.activations older both) i))
     which (ActivationAt (y ∷ ys) x older) h =
         let both : new ∷ v.activations ≡ y ∷ (ys ++ (x ∷ older)) = sym grown ∙ h in
-        inr (ActivationAt ys x older, tail_is new y v.activations (ys ++ (x ∷ older)) both, (λ i. ActivationAt (head_is new y v.activations (ys ++ (x ∷ older)) both i ∷ ys) x older))
+        inr (ActivationAt ys x older, tail_is new y v.activations (ys ++ (x ∷ older)) both, (λ i. ActivationAt (same_first new y v.activations (ys ++ (x ∷ older)) both i ∷ ys) x older))
 
   -- the region of a thing stays, or that of the newest activation becomes that of older ones
   pub region_cases : (lane : ℕ) (u : Thing) → (region_of lane (lift u) ≡ region_of lane u) ⊎ ((region_of lane u ≡ Frame new.callee) × (region_of lane (lift u) ≡ OldFrame new.callee))

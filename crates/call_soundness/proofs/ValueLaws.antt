@@ -1,11 +1,10 @@
 -- Values in a world in which things stand elsewhere or have aged.
-use Rattle.std.proofs.Common.{◌≡◌, ◌⊎◌, inl, inr, ℕ, Bool, true, false, List, [], ◌∷◌, refl, sym, ◌∙◌, ap, subst, pos}
+use Rattle.std.proofs.Common.{◌≡◌, inl, inr, ℕ, List, [], ◌∷◌, refl, sym, ◌∙◌, ap, subst, pos}
 use Rattle.std.specs.Prelude.{ℤ, ◌+ℤ◌, ◌≤ℤ◌}
-use Rattle.image_map.specs.declared.region.RegionId.{RegionId}
 use Rattle.strided.specs.Concrete.{signed}
-use Rattle.strided.specs.Interval.{IsMember, least, greatest}
+use Rattle.strided.specs.Interval.{least, greatest}
 use Rattle.vset.specs.declared.part.Part.{Part}
-use Rattle.vset.specs.Members.{IsPartMember, IsInParts, HasValue, IsOffset, HasOffset}
+use Rattle.vset.specs.Members.{IsInParts, HasValue, IsOffset, HasOffset}
 use Rattle.vset.specs.Values.{Values, Top, Parts}
 use Rattle.vset.specs.World.{World, Thing, IsIn, base_of, region_of}
 

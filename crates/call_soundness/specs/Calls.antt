@@ -1,5 +1,5 @@
 -- What a call, a return and an allocation leave as it was and what they change, in the words of the laws on their abstract steps. The project's own.
-use Rattle.std.specs.Prelude.{◌≡◌, ℕ, ◌+◌, ◌<◌, ◌≤◌, ◌==◌, Bool, true, false, List, [], ◌∷◌, ◌++◌, Some}
+use Rattle.std.specs.Prelude.{◌≡◌, ℕ, ◌+◌, ◌≤◌, ◌==◌, true, false, List, [], ◌∷◌, ◌++◌, Some}
 use Rattle.image_map.specs.declared.region.Activation.{Activation}
 use Rattle.ia32_semantics.specs.declared.state.Allocation.{Allocation}
 use Rattle.ia32_semantics.specs.Outcome.{is_in_stack}

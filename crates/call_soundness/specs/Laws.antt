@@ -1,9 +1,9 @@
 -- That each step from a state that a map knows is one of the map's. The laws are the project's own.
-use Rattle.std.specs.Prelude.{◌≡◌, ℕ, ◌+◌, ◌^◌, ◌<◌, ◌≤◌, Bool, true, false, ℤ, pos, ◌+ℤ◌, ◌-ℤ◌, List, None}
+use Rattle.std.specs.Prelude.{◌≡◌, ℕ, ◌+◌, ◌^◌, ◌<◌, ◌≤◌, Bool, true, false, ℤ, pos, ◌+ℤ◌, ◌-ℤ◌, List, length, None}
 use Rattle.image_map.specs.declared.image.Image.{Image}
 use Rattle.image_map.specs.declared.region.Kind.{Kind}
-use Rattle.image_map.specs.declared.region.Kind.TheVariants as kind
 use Rattle.image_map.specs.declared.region.Settings.{Settings}
+use Rattle.image_map.specs.CallModel.{AreSettings, IsKind}
 use Rattle.image_map.specs.Whole.{IsImage}
 use Rattle.image_map.specs.declared.region.Activation.{Activation}
 use Rattle.image_map.specs.declared.region.RegionId.TheVariants.{Heap, OldHeap}
@@ -25,11 +25,13 @@ use Rattle.vset.specs.Members.{HasValue}
 use Rattle.vset.specs.Values.{Values}
 use Rattle.vset.specs.World.{key_of}
 use Rattle.abs_steps.specs.Calls.{called, returned, allocated}
-use Rattle.abs_steps.specs.Places.{Content, Instruction, Extern, content_at}
+use Rattle.abs_steps.specs.Places.{Instruction, Extern, content_at}
 use Rattle.abs_steps.specs.Successors.{States}
-use Rattle.slice_soundness.specs.Premises.{GoesOn, Stays, Calls, Returns, Row}
+use Rattle.slice_soundness.specs.Premises.{GoesOn, Stays, Calls, Returns, Row, AbstractSteps, SlotsAreKept}
+use Rattle.slice_soundness.specs.Located.{MovesBytes}
 use Rattle.step_soundness.specs.Steps.{is_plain, IsExecuted, KeepsToAccesses}
 use Rattle.call_soundness.specs.Calls.{IsCalled, IsReturned, IsAllocated}
+use Rattle.call_soundness.specs.Externs.{returns_from, IsAnswered, KeepsAnswer}
 use Rattle.call_soundness.specs.Maps.{Drawn, map_of}
 
 -- an instruction that is fetched at an address is what stands there
@@ -71,37 +73,39 @@ ReturnsAreRows =
     → GoesOn (machine image settings) (map_of image settings states drawn) o → o.act ≡ Executes i → i.op ≡ op.Ret
     → Returns (machine image settings) (map_of image settings states drawn) o × IsWhole image o.after
 
--- an extern that reads, and then returns
-abbrev pub only_reads : Kind → Bool
-only_reads (kind.Pure arguments) = true
-only_reads (kind.Reader arguments) = true
-only_reads _ = false
-
--- so does the answer of such an extern
-abbrev pub ReadersAreRows : Type 0
-ReadersAreRows =
-    (image : Image) (settings : Settings) (states : States) (drawn : Drawn) (o : Occurrence Act) (at : ℕ) (k : Kind) → IsImage image
-    → GoesOn (machine image settings) (map_of image settings states drawn) o → o.act ≡ Answers at k → only_reads k ≡ true
+-- So does the answer of an extern.
+abbrev pub AnswersAreRows : Type 0
+AnswersAreRows =
+    (image : Image) (settings : Settings) (states : States) (drawn : Drawn) (o : Occurrence Act) (at : ℕ) (k : Kind) → IsImage image → AreSettings (length image.externs) settings
+    → GoesOn (machine image settings) (map_of image settings states drawn) o → o.act ≡ Answers at k → returns_from k ≡ true
     → Returns (machine image settings) (map_of image settings states drawn) o × IsWhole image o.after
 
--- an act of which the laws above speak, or after which no run goes on: all but strings, and externs that allocate or write
-abbrev pub is_told_of : Op → Bool
-is_told_of (op.Movs repeated) = false
-is_told_of (op.Stos repeated) = false
-is_told_of _ = true
-
-abbrev pub is_told : Act → Bool
-is_told (Executes i) = is_told_of i.op
-is_told (Answers at kind.Alloc) = false
-is_told (Answers at (kind.Fills buffer length)) = false
-is_told (Answers at k) = true
-
--- From a state that the map knows each such act that isn't the last of a run is a row, and leaves a whole state.
+-- From a state that the map knows each step that isn't the last of a run is a row, and leaves a whole state.
 abbrev pub StepsAreRows : Type 0
 StepsAreRows =
-    (image : Image) (settings : Settings) (states : States) (drawn : Drawn) (o : Occurrence Act) → IsImage image
-    → GoesOn (machine image settings) (map_of image settings states drawn) o → is_told o.act ≡ true
+    (image : Image) (settings : Settings) (states : States) (drawn : Drawn) (o : Occurrence Act) → IsImage image → AreSettings (length image.externs) settings
+    → GoesOn (machine image settings) (map_of image settings states drawn) o
     → Row (machine image settings) (map_of image settings states drawn) o × IsWhole image o.after
+
+-- So all that the argument on slices asks of single steps is met.
+abbrev pub AbstractStepsAreMet : Type 0
+AbstractStepsAreMet =
+    (image : Image) (settings : Settings) (states : States) (drawn : Drawn) → IsImage image → AreSettings (length image.externs) settings
+    → AbstractSteps (machine image settings) (map_of image settings states drawn)
+
+-- From a state that the map knows a step leaves the stack where it is and what was allocated, and a call or a return writes or forgets what it
+-- takes of the stack.
+abbrev pub StepsMoveBytes : Type 0
+StepsMoveBytes =
+    (image : Image) (settings : Settings) (states : States) (drawn : Drawn) (o : Occurrence Act) → IsImage image → AreSettings (length image.externs) settings
+    → GoesOn (machine image settings) (map_of image settings states drawn) o → MovesBytes (machine image settings) o
+
+-- No occurrence at a state that the map knows writes a return slot, and none forgets one but that of the activation that it ends; also where it is
+-- the last of a run.
+abbrev pub SlotsStay : Type 0
+SlotsStay =
+    (image : Image) (settings : Settings) (states : States) (drawn : Drawn) → IsImage image → AreSettings (length image.externs) settings
+    → SlotsAreKept (machine image settings) (map_of image settings states drawn)
 
 -- After a call the abstract state after it stands for the state: at a node of procedure p, where the return slot lies so far from the base
 -- of p's newest activation.
@@ -133,7 +137,12 @@ is_control op.Call = true
 is_control op.Ret = true
 is_control _ = false
 
--- each byte that such an instruction reads or writes is accessed
+-- each byte that such an instruction reads or writes is accessed, and what it writes in any case was written
 abbrev pub ControlStepsKeepToAccesses : Type 0
 ControlStepsKeepToAccesses =
     (image : Image) (lane : ℕ) (a : AbsState) (p : ℕ) (d : Division) (i : Instr) (o : Occurrence Act) → IsExecuted image lane a p d i o → is_control i.op ≡ true → KeepsToAccesses lane a i o
+
+-- so does the answer of an extern: but for one that may read every byte
+abbrev pub AnswersKeepToAccesses : Type 0
+AnswersKeepToAccesses =
+    (image : Image) (lane : ℕ) (a : AbsState) (p : ℕ) (d : Division) (at : ℕ) (k : Kind) (o : Occurrence Act) → IsKind k → IsAnswered image lane a p d at k o → KeepsAnswer lane a p d k o

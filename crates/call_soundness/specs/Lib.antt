@@ -1,3 +1,4 @@
 pub mod Maps
 pub mod Calls
+pub mod Externs
 pub mod Laws

@@ -1,6 +1,7 @@
 -- The map that an analysis has made of a program, as the argument on slices asks for it. The project's own.
 use Rattle.std.specs.Prelude.{◌≡◌, ◌⊎◌, ℕ, not, Bool, true, false, if◌then◌else◌, List, [], ◌∷◌, Option, Some, None}
 use Rattle.image_map.specs.declared.image.Image.{Image}
+use Rattle.image_map.specs.declared.region.RegionId.TheVariants.{Heap, OldHeap}
 use Rattle.image_map.specs.declared.region.Settings.{Settings}
 use Rattle.flow_graph.specs.declared.graph.FlowNode.{FlowNode}
 use Rattle.ia32_semantics.specs.CallModel.{IsWhole}
@@ -11,7 +12,8 @@ use Rattle.vset.specs.declared.facts.CmpFact.{CmpFact}
 use Rattle.vset.specs.declared.facts.CmpPlace.{CmpPlace}
 use Rattle.vset.specs.declared.facts.CmpPlace.TheVariants as place
 use Rattle.abs_semantics.specs.Touching.{names_one}
-use Rattle.abs_semantics.specs.States.{AbsState, HasCanonical}
+use Rattle.abs_semantics.specs.declared.parts.Known.{Known}
+use Rattle.abs_semantics.specs.States.{AbsState, HasCanonical, known_of}
 use Rattle.abs_semantics.specs.Below.{state_below}
 use Rattle.abs_semantics.specs.StandsFor.{StandsFor}
 use Rattle.abs_semantics.specs.Start.{initial_state}
@@ -68,10 +70,15 @@ abbrev pub IsOfOne : Option CmpFact → Type 0
 IsOfOne None = Unit {0}
 IsOfOne (Some f) = IsPlaceOfOne f.place
 
+-- of no block it is known how its base is aligned, since an allocation keeps what is known of regions
+abbrev pub IsUnaligned : List Known → Type 0
+IsUnaligned ks = (key : ℕ) → (known_of (Heap key) ks ≡ None) × (known_of (OldHeap key) ks ≡ None)
+
 -- the form that the analysis keeps
 pub record HasForm (a : AbsState) : Type 0 where
   pub canonical : HasCanonical a
   pub fact : IsOfOne a.fact
+  pub unaligned : IsUnaligned a.aligns
 
 abbrev pub map_of : Image → Settings → States → Drawn → Map
 map_of image settings states drawn =

@@ -1,6 +1,6 @@
 //! Laws of the definitions.
 
-ghost use Rattle.call_soundness.specs.Laws.{FetchedInstructionsStand, ExternsStand, StayingStepsAreRows, CallsAreRows, ReturnsAreRows, ReadersAreRows, StepsAreRows, CalledStatesStand, ReturnedStatesStand, AllocatedStatesStand, ControlStepsKeepToAccesses};
+ghost use Rattle.call_soundness.specs.Laws.{FetchedInstructionsStand, ExternsStand, StayingStepsAreRows, CallsAreRows, ReturnsAreRows, AnswersAreRows, StepsAreRows, AbstractStepsAreMet, StepsMoveBytes, SlotsStay, CalledStatesStand, ReturnedStatesStand, AllocatedStatesStand, ControlStepsKeepToAccesses, AnswersKeepToAccesses};
 
 /// An instruction that is fetched at an address is what stands there.
 pub fn fetched_instructions_stand()
@@ -30,14 +30,31 @@ pub fn returns_are_rows()
     ensures { ReturnsAreRows }
 {}
 
-/// So does the answer of an extern that only reads.
-pub fn readers_are_rows()
-    ensures { ReadersAreRows }
+/// So does the answer of an extern that returns.
+pub fn answers_are_rows()
+    ensures { AnswersAreRows }
 {}
 
-/// From a state that a map knows, each act but strings, and externs that allocate or write, is a row of the map and leaves a whole state.
+/// From a state that a map knows, each step that isn't the last of a run is a row of the map and leaves a whole state.
 pub fn steps_are_rows()
     ensures { StepsAreRows }
+{}
+
+/// All that the argument on slices asks of single steps is met: starts are whole and have the initial state, what is below stands for no more, and
+/// steps are rows.
+pub fn abstract_steps_are_met()
+    ensures { AbstractStepsAreMet }
+{}
+
+/// From a state that a map knows, a step leaves the stack where it is and what was allocated; a call or a return writes or forgets what it takes of
+/// the stack.
+pub fn steps_move_bytes()
+    ensures { StepsMoveBytes }
+{}
+
+/// No step from a state that a map knows writes a return slot, and none forgets one but a return: that of the activation that ends.
+pub fn slots_stay()
+    ensures { SlotsStay }
 {}
 
 /// After a call the abstract state after it stands for the state.
@@ -50,7 +67,7 @@ pub fn returned_states_stand()
     ensures { ReturnedStatesStand }
 {}
 
-/// Each byte that a jump, a branch, a call or a return reads or writes is accessed.
+/// Each byte that a jump, a branch, a call or a return reads or writes is accessed, and what it writes in any case was written.
 pub fn control_steps_keep_to_accesses()
     ensures { ControlStepsKeepToAccesses }
 {}
@@ -59,4 +76,9 @@ pub fn control_steps_keep_to_accesses()
 /// stands for the state.
 pub fn allocated_states_stand()
     ensures { AllocatedStatesStand }
+{}
+
+/// Each byte that an extern's answer writes is accessed, and so is each that it reads, unless it may read every byte.
+pub fn answers_keep_to_accesses()
+    ensures { AnswersKeepToAccesses }
 {}

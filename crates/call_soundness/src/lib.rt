@@ -5,7 +5,8 @@
 mod laws;
 
 pub use laws::{
-    allocated_states_stand, called_states_stand, calls_are_rows, control_steps_keep_to_accesses,
-    externs_stand, fetched_instructions_stand, readers_are_rows, returned_states_stand,
-    returns_are_rows, staying_steps_are_rows, steps_are_rows,
+    abstract_steps_are_met, allocated_states_stand, answers_are_rows, answers_keep_to_accesses,
+    called_states_stand, calls_are_rows, control_steps_keep_to_accesses, externs_stand,
+    fetched_instructions_stand, returned_states_stand, returns_are_rows, slots_stay,
+    staying_steps_are_rows, steps_are_rows, steps_move_bytes,
 };

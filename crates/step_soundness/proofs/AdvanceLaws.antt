@@ -1,24 +1,21 @@
 -- From what a row gives to what a step leaves.
-use Rattle.std.proofs.Common.{◌≡◌, ◌⊎◌, inl, inr, ℕ, ◌+◌, ◌%◌, ◌^◌, ◌<◌, ◌==◌, ◌&&◌, ◌||◌, Bool, true, false, not, cond, List, [], ◌∷◌, ◌++◌, Option, Some, None, refl, sym, ◌∙◌, ap, subst, arith, lit<}
+use Rattle.std.proofs.Common.{◌≡◌, ℕ, ◌+◌, ◌%◌, ◌^◌, ◌&&◌, ◌||◌, Bool, true, false, cond, List, [], ◌∷◌, Option, Some, None, refl, sym, ◌∙◌, ap, subst, arith}
 use Rattle.std.specs.Prelude.{is_some}
-use Rattle.std.proofs.lemmas.Bool.{false≢true}
 use Rattle.image_map.specs.declared.image.Image.{Image}
-use Rattle.image_map.specs.declared.region.Activation.{Activation}
 use Rattle.image_map.specs.declared.region.Block.{Block}
 use Rattle.image_map.specs.declared.region.Cell.{Cell}
 use Rattle.ia32_types.specs.declared.Instr.{Instr}
-use Rattle.ia32_semantics.specs.declared.state.Allocation.{Allocation}
 use Rattle.ia32_semantics.specs.CallModel.{IsWhole, AreActivations}
-use Rattle.ia32_semantics.specs.Effects.{Effect, sets, turns, stores, copies, all_changed, effects_fit, effects_write, effects_take}
+use Rattle.ia32_semantics.specs.Effects.{Effect, sets, turns, stores, copies, all_changed, effects_fit, effects_take, effects_write}
 use Rattle.ia32_semantics.specs.Machine.{Occurrence}
-use Rattle.ia32_semantics.specs.Outcome.{Outcome, going, made, can_move, is_in_stack, is_forgotten, is_any, AgreesBut}
-use Rattle.ia32_semantics.specs.Reading.{Reading, outcome, asks}
+use Rattle.ia32_semantics.specs.Outcome.{Outcome, going, made, can_move, is_in_stack, is_any, is_forgotten}
+use Rattle.ia32_semantics.specs.Reading.{outcome, asks}
 use Rattle.ia32_semantics.specs.Rows as rows
 use Rattle.ia32_semantics.specs.Rows.{next_place}
-use Rattle.ia32_semantics.specs.State.{State, Bytes, AtByte}
-use Rattle.ia32_semantics.specs.Step.{Act, Executes, Step, act_row, reads as step_reads, writes as step_writes, done_by, outcome_takes}
-use Rattle.ia32_semantics.proofs.EffectLemmas.{and_left, or_true, same_slot}
-use Rattle.ia32_semantics.proofs.StepLemmas.{writes_are, steps_stay_laid_out}
+use Rattle.ia32_semantics.specs.State.{State, AtByte}
+use Rattle.ia32_semantics.specs.Step.{Act, Executes, Step, act_row, reads as step_reads, writes as step_writes, outcome_takes, forgets}
+use Rattle.ia32_semantics.proofs.EffectLemmas.{and_left, or_true}
+use Rattle.ia32_semantics.proofs.StepLemmas.{writes_are, steps_stay_laid_out, forgets_are}
 use Rattle.alocs.specs.Cells.{Division}
 use Rattle.vset.specs.World.{Thing, TheImage, ActivationAt, BlockAt}
 use Rattle.vset.specs.declared.facts.CmpFact.{CmpFact}
@@ -28,8 +25,8 @@ use Rattle.abs_semantics.specs.States.{AbsState}
 use Rattle.abs_semantics.specs.StandsFor.{StandsFor, Owns, IsCellOf, IsTrueAt, HoldsFact}
 use Rattle.abs_steps.specs.declared.accesses.Access.{Access}
 use Rattle.abs_steps.specs.Effects.{AbsEffect, all_done}
-use Rattle.step_soundness.specs.Accessed.{IsAccessed}
-use Rattle.step_soundness.proofs.EndLaws.{Goes, Ends}
+use Rattle.step_soundness.specs.Accessed.{IsAccessed, AreFilled}
+use Rattle.step_soundness.proofs.EndLaws.{Goes, Ends, filled_more}
 use Rattle.step_soundness.proofs.GivenLaws.{Gives}
 
 -- -- Another place, and other blocks
@@ -136,16 +133,19 @@ pub place_word : (i : Instr) → next_place i % 2 ^ 32 ≡ next_place i
 place_word i = omega arith
 
 module _ (image : Image) (lane p : ℕ) (a : AbsState) (d : Division) (i : Instr) (o : Occurrence Act) (whole : IsWhole image o.before) (act : o.act ≡ Executes i) (st : Step image o)
-    (reads writes : List Access) (given : List AbsEffect)
-    (row : Gives o.before (IsAccessed lane o.before reads) (Goes image lane p a o.before d (next_place i) reads writes given) (rows.row i.op i)) where
+    (reads writes sure : List Access) (given : List AbsEffect)
+    (row : Gives o.before (IsAccessed lane o.before reads) (Goes image lane p a o.before d (next_place i) reads writes sure given) (rows.row i.op i)) where
   row_is : outcome (rows.row i.op i) o.before o.choices ≡ Some (st.done, [])
   row_is = subst (λ (c : Act). outcome (act_row c) o.before o.choices ≡ Some (st.done, [])) act st.row
 
-  goes : Goes image lane p a o.before d (next_place i) reads writes given st.done
+  goes : Goes image lane p a o.before d (next_place i) reads writes sure given st.done
   goes = row.given o.choices [] st.done row_is
 
-  ends : Ends image lane p a o.before d writes given st.done.effects
-  ends = goes.ends (and_left (effects_fit image o.before.memory st.done.effects) (can_move st.done.calls o.before.activations) st.possible)
+  fits : effects_fit image o.before.memory st.done.effects ≡ true
+  fits = and_left (effects_fit image o.before.memory st.done.effects) (can_move st.done.calls o.before.activations) st.possible
+
+  ends : Ends image lane p a o.before d writes sure given st.done.effects
+  ends = goes.ends fits
 
   pub row_whole : IsWhole image o.after
   row_whole =
@@ -173,7 +173,7 @@ module _ (image : Image) (lane p : ℕ) (a : AbsState) (d : Division) (i : Instr
   row_reads byte e =
       or_true (asks (act_row o.act) o.before o.choices (AtByte byte)) _ e
       (λ f. row.asked o.choices [] st.done row_is byte (subst (λ (c : Act). asks (act_row c) o.before o.choices (AtByte byte) ≡ true) act f))
-      (λ f. goes.taken byte (taken_only (effects_take st.done.effects (AtByte byte)) (sym (ap (λ r. outcome_takes r o.before (AtByte byte)) st.row ∙ none) ∙ f)))
+      (λ f. goes.taken byte fits (taken_only (effects_take st.done.effects (AtByte byte)) (sym (ap (λ r. outcome_takes r o.before (AtByte byte)) st.row ∙ none) ∙ f)))
     where
       none : outcome_takes (Some (st.done, [])) o.before (AtByte byte) ≡ (effects_take st.done.effects (AtByte byte) || false)
       none = ap (λ (x : Outcome). effects_take st.done.effects (AtByte byte) || (x.reads_all && is_some (o.before.memory byte))) goes.is
@@ -184,3 +184,14 @@ module _ (image : Image) (lane p : ℕ) (a : AbsState) (d : Division) (i : Instr
 
   pub row_writes : (byte : ℕ) → step_writes o (AtByte byte) ≡ true → IsAccessed lane o.before writes byte
   row_writes byte e = ends.written byte (sym (writes_are image o st (AtByte byte)) ∙ e)
+
+  pub row_fills : AreFilled lane o.before (λ byte. step_writes o (AtByte byte)) sure
+  row_fills = filled_more lane o.before (λ byte. effects_write st.done.effects (AtByte byte)) (λ byte. step_writes o (AtByte byte)) (λ byte e. writes_are image o st (AtByte byte) ∙ e) sure ends.filled
+
+  -- nothing is forgotten
+  pub row_forgets : (byte : ℕ) → forgets o (AtByte byte) ≡ false
+  row_forgets byte = forgets_are image o st byte ∙ ap (λ (x : Outcome). is_forgotten x o.before byte) goes.is ∙ none (is_in_stack o.before.slot byte)
+    where
+      none : (b : Bool) → (b && false) ≡ false
+      none true = refl
+      none false = refl

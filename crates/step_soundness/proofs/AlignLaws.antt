@@ -1,19 +1,18 @@
 -- An offset in an activation whose base is known modulo 16, lowered to a multiple of a power of 2: what `and` with the negative of the
 -- power gives.
-use Rattle.std.proofs.Common.{◌≡◌, inl, inr, ℕ, ◌+◌, ◌-◌, ◌*◌, ◌/◌, ◌%◌, ◌^◌, ◌<◌, ◌≤◌, ◌==◌, Bool, true, false, cond, List, [], ◌∷◌, Option, Some, None, refl, sym, ◌∙◌, ap, subst, arith, lit<}
+use Rattle.std.proofs.Common.{◌≡◌, inl, inr, ℕ, ◌+◌, ◌-◌, ◌*◌, ◌/◌, ◌%◌, ◌<◌, ◌==◌, Bool, true, false, cond, [], ◌∷◌, Option, Some, None, refl, sym, ◌∙◌, ap, subst, arith, lit<}
 use Rattle.std.proofs.lemmas.Int.{ints, int_rem_euclid_is}
 use Rattle.std.proofs.lemmas.Bool.{cond_both, eqb-true}
 use Rattle.std.proofs.lemmas.Option.{none-some, same_Some}
-use Rattle.std.proofs.lemmas.Nat.{and_comm}
 use Rattle.std.proofs.lemmas.Nat.Bits.{and_high_mask}
 use Rattle.std.specs.Prelude.{ℤ, pos, negsuc, ◌+ℤ◌, unsigned_abs, bit_and}
 use Rattle.std.specs.Ordering.{int_eq}
-use Rattle.std.specs.Int.{int_rem_euclid, int_wrap, w32}
+use Rattle.std.specs.Int.{int_rem_euclid, int_wrap}
 use Rattle.image_map.specs.declared.region.RegionId.{RegionId}
 use Rattle.image_map.specs.declared.region.RegionId.TheVariants.{Global, Frame, OldFrame, Heap, OldHeap}
 use Rattle.ia32_semantics.specs.State.{State}
 use Rattle.strided.specs.Concrete.{signed}
-use Rattle.strided.specs.Interval.{Interval, IsMember}
+use Rattle.strided.specs.Interval.{Interval}
 use Rattle.strided.specs.Operations.{only}
 use Rattle.si_bits.specs.Concrete as concrete
 use Rattle.si_bits.proofs.MemberLemmas.{member_single}
@@ -22,11 +21,10 @@ use Rattle.vset.specs.declared.part.Part.{Part}
 use Rattle.vset.specs.Members.{HasValue, IsPartMember}
 use Rattle.vset.specs.Operations.{sub}
 use Rattle.vset.specs.Values.{Values, Top, Parts, CanonicalValues, only_number}
-use Rattle.vset.specs.World.{base_of, region_of}
+use Rattle.vset.specs.World.{base_of}
 use Rattle.abs_alu.specs.Words.{number}
 use Rattle.abs_alu.proofs.CanonicalLemmas.{sub_values_canonical}
-use Rattle.abs_alu.proofs.WordLemmas.{only_has, signed_is}
-use Rattle.abs_semantics.specs.declared.parts.Known.{Known}
+use Rattle.abs_alu.proofs.WordLemmas.{only_has}
 use Rattle.abs_semantics.specs.States.{AbsState, known_of}
 use Rattle.abs_semantics.specs.StandsFor.{StandsFor, world_of}
 use Rattle.std.specs.Cmp.{signed_Decides}

@@ -1,6 +1,6 @@
 -- What an operation of arithmetic gives, and its flags, are among the values and flags that the abstract operation gives, for all numbers
 -- that a row may have read.
-use Rattle.std.proofs.Common.{◌≡◌, ◌⊎◌, inl, inr, ℕ, ◌+◌, ◌*◌, ◌%◌, ◌^◌, ◌<◌, ◌≤◌, Bool, true, false, cond, List, [], ◌∷◌, Option, Some, None, refl, sym, ◌∙◌, ap, subst, arith, lit<, pos}
+use Rattle.std.proofs.Common.{◌≡◌, ◌⊎◌, inl, inr, ℕ, ◌%◌, ◌^◌, ◌<◌, Bool, true, false, cond, Option, Some, None, refl, sym, ◌∙◌, ap, subst, arith, pos}
 use Rattle.std.proofs.lemmas.Bool.{true≢false}
 use Rattle.std.proofs.lemmas.Option.{none-some}
 use Rattle.ia32_types.specs.declared.Flag.TheVariants.{Cf}
@@ -11,10 +11,8 @@ use Rattle.ia32_types.specs.declared.Width.TheVariants.{B8, W16, D32}
 use Rattle.ia32_types.specs.Sets.{has_flag}
 use Rattle.ia32_alu.specs.Widths.{IsWidth}
 use Rattle.ia32_semantics.specs.declared.flags.Flags.{Flags}
-use Rattle.ia32_semantics.specs.declared.flags.FlagsOut.{FlagsOut}
 use Rattle.ia32_semantics.specs.Operands.{bits}
 use Rattle.strided.specs.Interval.{Interval}
-use Rattle.si_bits.specs.Concrete as concrete
 use Rattle.vset.specs.declared.facts.AbsFlags.{AbsFlags}
 use Rattle.vset.specs.Members.{HasValue}
 use Rattle.vset.specs.Operations.{add, sub, join}
@@ -22,10 +20,10 @@ use Rattle.vset.specs.Values.{Values, Top, Parts, CanonicalValues, only_number}
 use Rattle.vset.specs.World.{World}
 use Rattle.abs_alu.specs.Computed.{is_computed, computed, computed_flags}
 use Rattle.abs_alu.specs.Flags.{flags_out, is_shift, unknown_flags}
-use Rattle.abs_alu.specs.Operands.{known, takes_second, takes_carry, known_carry, with_second, with_carry, operands, single_word}
+use Rattle.abs_alu.specs.Operands.{known, takes_second, with_second, operands, single_word}
 use Rattle.abs_alu.specs.Results.{computed_or, narrow, wide, value, flags}
-use Rattle.abs_alu.specs.Runs.{Allows, AllowsAll, AreAfter, IsDone, given}
-use Rattle.abs_alu.specs.Words.{numbers, number, words, by_carry, with_carries, of_intervals, of_numbers, shifted_interval, shifted}
+use Rattle.abs_alu.specs.Runs.{Allows, AllowsAll, AreAfter, IsDone}
+use Rattle.abs_alu.specs.Words.{number, words, by_carry, with_carries, of_intervals, of_numbers, shifted_interval, shifted}
 use Rattle.abs_alu.proofs.ComputedLemmas.{computed_below}
 use Rattle.abs_alu.proofs.FlagLemmas.{after_allows}
 use Rattle.abs_alu.proofs.OpLemmas.{each_op}
@@ -34,16 +32,12 @@ use Rattle.abs_alu.proofs.WordLemmas.{known_is}
 use Rattle.abs_alu.proofs.WrittenLemmas.{unknown_covers}
 use Rattle.step_soundness.proofs.ReadLaws.{IsRead}
 use Rattle.step_soundness.proofs.WordLaws.{any_has}
+use Rattle.step_soundness.proofs.WidthLaws.{fits_word, cut_same}
 
 pub width_of : (width : Width) → IsWidth (bits width)
 width_of B8 = inl refl
 width_of W16 = inr (inl refl)
 width_of D32 = inr (inr refl)
-
-cut : (width : Width) (n : ℕ) → n < 2 ^ bits width → n ≡ n % 2 ^ bits width
-cut B8 n lt = omega (arith, lt)
-cut W16 n lt = omega (arith, lt)
-cut D32 n lt = omega (arith, lt)
 
 -- -- An operand that may be any
 
@@ -179,11 +173,6 @@ shift_takes =
     (λ e. cc) (λ e. cc) (λ e. cc) (λ e. cc)
     (λ e. refl) (λ e. refl) (λ e. refl) (λ e. refl) (λ e. refl) (λ e. refl) (λ e. refl)
 
-word_below : (width : Width) (n : ℕ) → n < 2 ^ bits width → n < 4294967296
-word_below B8 n lt = omega (arith, lt)
-word_below W16 n lt = omega (arith, lt)
-word_below D32 n lt = lt
-
 -- what a row has read for an operation: the second number is 0 where none is taken
 pub record AreTaken (lane : ℕ) (world : World) (width : Width) (o : Op) (a b : Values) (m n : ℕ) : Type 0 where
   pub first : IsRead lane world width a m
@@ -205,7 +194,7 @@ module _ (lane : ℕ) (world : World) (width : Width) (o : Op) (is : is_computed
   count_is shift k e = by taken.second_sure
     where
       by : (n < 2 ^ bits width) ⊎ ((b ≡ Top) × (takes_second o ≡ true)) → k ≡ n
-      by (inl lt) = known_is lane world n (word_below width n lt) (bits width) b k e (taken.second_has (shift_takes o is shift))
+      by (inl lt) = known_is lane world n (fits_word width n lt) (bits width) b k e (taken.second_has (shift_takes o is shift))
       by (inr any) = absurd (none-some k (sym (known_top lane world n (bits width) b any.0) ∙ e))
 
   -- the flags that the operation leaves
@@ -219,7 +208,7 @@ module _ (lane : ℕ) (world : World) (width : Width) (o : Op) (is : is_computed
       where
         by : ((m < 2 ^ bits width) × (n < 2 ^ bits width)) ⊎ IsAny o a b → HasValue lane world (computed (bits width) o m n before.cf % 2 ^ bits width) (value (bits width) o a b f)
         by (inl both) =
-            subst (λ k. HasValue lane world k (value (bits width) o a b f)) (cut width (computed (bits width) o m n before.cf) (computed_below (bits width) (width_of width) m n before.cf both.0 both.1 o is))
+            subst (λ k. HasValue lane world k (value (bits width) o a b f)) (cut_same width (computed (bits width) o m n before.cf) (computed_below (bits width) (width_of width) m n before.cf both.0 both.1 o is))
             (value_holds lane world a b f fa fb (bits width) (width_of width) o (done_by both.0 both.1) is)
         by (inr any) = value_any lane world (computed (bits width) o m n before.cf % 2 ^ bits width) a b f before.cf allowed.0 width o (below width (computed (bits width) o m n before.cf)) is any
           where

@@ -1,10 +1,9 @@
 -- Comparisons, and what is remembered of them.
-use Rattle.std.proofs.Common.{◌≡◌, ◌⊎◌, inl, inr, ℕ, ◌+◌, ◌-◌, ◌*◌, ◌/◌, ◌%◌, ◌^◌, ◌<◌, ◌≤◌, ◌==◌, ◌&&◌, Bool, true, false, not, cond, List, [], ◌∷◌, ◌++◌, Option, Some, None, refl, sym, ◌∙◌, ap, subst, arith, lit<, pos}
-use Rattle.std.proofs.lemmas.Int.{ints}
+use Rattle.std.proofs.Common.{◌≡◌, ◌⊎◌, inl, inr, ℕ, ◌+◌, ◌-◌, ◌%◌, ◌^◌, ◌<◌, ◌==◌, ◌&&◌, Bool, true, false, cond, List, [], ◌++◌, Option, Some, None, refl, sym, ◌∙◌, ap, subst, arith, lit<, pos}
 use Rattle.std.proofs.lemmas.Bool.{false≢true, cond_both, eqb-true, ltb-true}
 use Rattle.std.proofs.lemmas.Option.{none-some, same_Some}
 use Rattle.std.specs.Int.Bits.{and_self}
-use Rattle.std.specs.Prelude.{nat_lt, ℤ, ◌+ℤ◌, bit_and}
+use Rattle.std.specs.Prelude.{nat_lt, ◌+ℤ◌, bit_and}
 use Rattle.std.specs.Option.{option_map}
 use Rattle.image_map.specs.declared.image.Image.{Image}
 use Rattle.image_map.specs.declared.region.Cell.{Cell}
@@ -18,38 +17,33 @@ use Rattle.ia32_types.specs.declared.Width.{Width}
 use Rattle.ia32_types.specs.declared.Width.TheVariants.{B8, W16, D32}
 use Rattle.ia32_types.specs.Numbers.{reg_number}
 use Rattle.ia32_types.specs.Operands.{IsPlace, IsValue, HasTwo, HasOneAddress}
-use Rattle.ia32_semantics.specs.declared.flags.Flags.{Flags}
 use Rattle.ia32_semantics.specs.declared.flags.FlagsOut.{FlagsOut}
 use Rattle.ia32_semantics.specs.declared.flags.FlagOut.TheVariants as out
-use Rattle.ia32_semantics.specs.Alu.{differ, sign, alu_value, alu_flags, kept_flags, difference, difference_flags, difference_borrows, difference_overflows, logic_flags, result_flags, has_even_parity}
+use Rattle.ia32_semantics.specs.Alu.{differ, sign, alu_flags, difference, difference_flags, difference_borrows, difference_overflows, logic_flags, result_flags, has_even_parity}
 use Rattle.ia32_semantics.specs.CallModel.{AreActivations}
 use Rattle.ia32_semantics.specs.Effects.{all_changed}
 use Rattle.vset.specs.World.{base_of}
 use Rattle.ia32_semantics.specs.Operands as machine
-use Rattle.ia32_semantics.specs.Operands.{bits, size, low_part, flag_effects as machine_flags}
+use Rattle.ia32_semantics.specs.Operands.{bits, low_part, flag_effects as machine_flags}
 use Rattle.ia32_semantics.specs.Outcome.{going}
-use Rattle.ia32_semantics.specs.Reading.{Reading, gives, ◌>>=◌}
 use Rattle.ia32_semantics.specs.Rows as rows
 use Rattle.ia32_semantics.specs.Rows.{next_place, goes_on}
-use Rattle.ia32_semantics.specs.State.{State, bytes_at, little_endian, word_at}
+use Rattle.ia32_semantics.specs.State.{State, bytes_at, little_endian}
+use Rattle.ia32_semantics.proofs.ChangeLemmas.{flags_write_none}
 use Rattle.alocs.specs.Cells.{Division}
-use Rattle.strided.specs.Concrete.{signed}
 use Rattle.strided.specs.Interval.{Interval, IsMember, one}
 use Rattle.strided.proofs.SumLemmas.{member_one}
-use Rattle.si_bits.specs.Concrete as concrete
 use Rattle.vset.specs.declared.part.Part.{Part}
-use Rattle.vset.specs.declared.facts.CmpFact.{CmpFact}
 use Rattle.vset.specs.declared.facts.CmpPlace.{CmpPlace}
 use Rattle.vset.specs.declared.facts.CmpPlace.TheVariants as place
-use Rattle.vset.specs.Values.{Values, Top, CanonicalValues, only_number}
-use Rattle.vset.specs.Members.{HasValue}
-use Rattle.abs_alu.specs.Computed.{is_computed, computed, computed_flags}
+use Rattle.vset.specs.Values.{Values, Top, only_number}
+use Rattle.abs_alu.specs.Computed.{is_computed, computed_flags}
 use Rattle.abs_alu.specs.Operands.{takes_second}
 use Rattle.abs_alu.specs.Runs.{AreAfter}
 use Rattle.abs_alu.proofs.WordLemmas.{only_has, signed_is}
 use Rattle.abs_cmp.specs.Facts.{IsCompared, all_set}
 use Rattle.abs_semantics.specs.States.{AbsState, HasCanonical}
-use Rattle.abs_semantics.specs.StandsFor.{StandsFor, world_of, flags_of, IsCellOf, HoldsFact}
+use Rattle.abs_semantics.specs.StandsFor.{StandsFor, world_of, flags_of, HoldsFact}
 use Rattle.abs_semantics.specs.Ownership.{IsKnown, IsRange, IsOwnedAt}
 use Rattle.abs_semantics.specs.Operands.{address}
 use Rattle.abs_semantics.specs.Ranges.{lone_range}
@@ -57,7 +51,7 @@ use Rattle.abs_semantics.specs.Touching.{cell_at}
 use Rattle.abs_semantics.proofs.FirstLemmas.{bytes_mapped}
 use Rattle.abs_semantics.proofs.ReadLemmas.{lone_owned, cell_at_is}
 use Rattle.abs_steps.specs.Accesses.{of_operand}
-use Rattle.abs_steps.specs.Effects.{AbsEffect, learns, all_done}
+use Rattle.abs_steps.specs.Effects.{all_done}
 use Rattle.abs_steps.specs.Results.{are_one_register, keeps_flags}
 use Rattle.abs_steps.specs.Rows as steps
 use Rattle.abs_steps.specs.Rows.{view_of, flag_effects, is_remembered, as_place, place_at, place_of, fact_on, learned, learned_by}
@@ -66,7 +60,7 @@ use Rattle.step_soundness.specs.Accessed.{IsAccessed}
 use Rattle.step_soundness.specs.Terms.{IsOperand, address_in}
 use Rattle.step_soundness.proofs.ArithmeticLaws.{AreTaken}
 use Rattle.step_soundness.proofs.CoreLaws.{owns_after, learns_stand}
-use Rattle.step_soundness.proofs.EndLaws.{accessed_left, accessed_right, done_append, flags_write, flags_take}
+use Rattle.step_soundness.proofs.EndLaws.{accessed_left, accessed_right, done_append, flags_take}
 use Rattle.step_soundness.proofs.FlagLaws.{all_flagged, flags_changed, flags_by}
 use Rattle.step_soundness.proofs.GivenLaws.{Gives, gives_bind, gives_this}
 use Rattle.step_soundness.proofs.OperandLaws.{registers_hold}
@@ -268,14 +262,15 @@ module _ (image : Image) (lane p : ℕ) (a : AbsState) (s : State) (d : Division
       gives_this s R _ (going (machine_flags o) (next_place i))
       (record {
         is = refl;
-        taken = λ byte f. absurd (false≢true (sym (flags_take o byte) ∙ f));
+        taken = λ byte fit f. absurd (false≢true (sym (flags_take o byte) ∙ f));
         ends = λ fit. record {
           stands = subst (λ e. StandsFor lane e (all_changed (machine_flags o) s)) (sym (done_append d image p flags more a))
               (subst (λ t. StandsFor lane (all_done d image p more (all_done d image p flags a)) t) (sym (flags_changed o s))
               (learns_ x y fx m n i.width hm hn (all_done d image p flags a)
               (subst (λ t. StandsFor lane (all_done d image p flags a) t) (flags_changed o s) (flagged.stands a s (since_itself image lane p a s known_ form)))));
           slots = subst (λ (t : State). AreActivations image t.memory s.slot s.activations) (sym (flags_changed o s)) known_.whole.activations;
-          written = λ byte f. absurd (false≢true (sym (flags_write o byte) ∙ f));
+          written = λ byte f. absurd (false≢true (sym (flags_write_none o byte) ∙ f));
+          filled = tt;
         };
       })))
     where

@@ -1,6 +1,5 @@
 -- Flags that a row writes are among those that the abstract row allows.
-use Rattle.std.proofs.Common.{◌≡◌, ℕ, ◌+◌, ◌<◌, ◌==◌, Bool, true, false, cond, List, [], ◌∷◌, ◌++◌, Option, Some, None, refl, sym, ◌∙◌, ap, subst, arith, lit<}
-use Rattle.image_map.specs.declared.image.Image.{Image}
+use Rattle.std.proofs.Common.{◌≡◌, ℕ, ◌<◌, ◌==◌, Bool, true, false, cond, ◌++◌, refl, sym, ◌∙◌, ap, subst, arith, lit<}
 use Rattle.ia32_types.specs.declared.Flag.{Flag}
 use Rattle.ia32_types.specs.declared.Flag.TheVariants.{Cf, Pf, Zf, Sf, Of}
 use Rattle.ia32_types.specs.Numbers.{flag_number}
@@ -10,25 +9,18 @@ use Rattle.ia32_semantics.specs.declared.flags.Flags.{Flags}
 use Rattle.ia32_semantics.specs.declared.flags.FlagsOut.{FlagsOut}
 use Rattle.ia32_semantics.specs.declared.flags.FlagOut.{FlagOut}
 use Rattle.ia32_semantics.specs.declared.flags.FlagOut.TheVariants as out
-use Rattle.ia32_semantics.specs.Effects.{Effect, turns as turns_flag, all_changed}
+use Rattle.ia32_semantics.specs.Effects.{all_changed}
 use Rattle.ia32_semantics.specs.Operands.{flag_effect, flag_effects, any_flag, any_flags, any_word, is_set}
-use Rattle.ia32_semantics.specs.Reading.{Reading, gives, ◌>>=◌}
+use Rattle.ia32_semantics.specs.Reading.{gives}
 use Rattle.ia32_semantics.specs.State.{State, put}
-use Rattle.alocs.specs.Cells.{Division}
+use Rattle.ia32_semantics.proofs.EffectLemmas.{changed_append}
 use Rattle.vset.specs.declared.facts.AbsFlags.{AbsFlags}
-use Rattle.abs_alu.specs.Flags.{flag_set}
 use Rattle.abs_alu.specs.Runs.{Allows, AllowsAll, IsFlagAfter, AreAfter}
-use Rattle.abs_alu.proofs.FlagLemmas.{flag_set_has}
+use Rattle.ia32_types.proofs.SetLemmas.{flag_set_has}
 use Rattle.abs_semantics.specs.States.{AbsState}
 use Rattle.abs_semantics.specs.StandsFor.{StandsFor, flags_of}
-use Rattle.abs_steps.specs.Effects.{turns, frees, done}
 use Rattle.abs_steps.specs.Flags.{MayBe, sets_of, allows}
-use Rattle.step_soundness.proofs.CoreLaws.{frees_stands, turns_stand}
 use Rattle.step_soundness.proofs.GivenLaws.{Gives, gives_bind, gives_this, gives_choice}
-
-pub changed_append : (es fs : List Effect) (s : State) → all_changed (es ++ fs) s ≡ all_changed fs (all_changed es s)
-changed_append [] fs s = refl
-changed_append (e ∷ es) fs s = changed_append es fs _
 
 -- -- One flag
 

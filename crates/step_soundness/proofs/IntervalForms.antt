@@ -1,33 +1,25 @@
 -- The intervals and values that operations give have the one form of their members.
-use Rattle.std.proofs.Common.{◌≡◌, inl, inr, ℕ, zero, suc, ◌+◌, ◌-◌, ◌*◌, ◌/◌, ◌%◌, ◌^◌, ◌<◌, ◌≤◌, ◌==◌, ◌&&◌, Bool, true, false, cond, [], ◌∷◌, Option, Some, None, refl, sym, ◌∙◌, ap, subst, arith, lit<}
+use Rattle.std.proofs.Common.{◌≡◌, ℕ, zero, suc, ◌+◌, ◌-◌, ◌*◌, ◌/◌, ◌%◌, ◌^◌, ◌<◌, ◌≤◌, ◌==◌, ◌&&◌, cond, refl, sym, subst, arith}
 use Rattle.std.proofs.lemmas.Int.{ints, clamps}
 use Rattle.std.proofs.lemmas.Bool.{cond_both, eqb-true, eqb-false, and_parts}
-use Rattle.std.proofs.lemmas.Nat.{and_le_l, or_lt, xor_lt, shr_le}
-use Rattle.std.specs.Prelude.{nat_lt, ℤ, pos, negsuc, neg_ℤ, ◌≤ℤ◌, ◌-ℤ◌, unsigned_abs, FitsSigned, bit_and, bit_or, bit_xor, int_le, int_lt, if◌then◌else◌}
+use Rattle.std.proofs.lemmas.Nat.{or_lt, xor_lt, shr_le}
+use Rattle.std.specs.Prelude.{nat_lt, ℤ, pos, negsuc, neg_ℤ, ◌≤ℤ◌, ◌-ℤ◌, unsigned_abs, FitsSigned, bit_or, bit_xor, int_le, int_lt}
 use Rattle.std.specs.Int.{trailing_zeros, leading_zeros, int_min, int_max, int_shr, w32}
 use Rattle.strided.specs.Interval.{Interval, IsCanonical, one, full, least, greatest}
 use Rattle.strided.specs.Operations.{spaced}
 use Rattle.strided.proofs.BoundLemmas.{member_lo}
 use Rattle.strided.proofs.MemberLemmas.{one_canonical, full_canonical, canonical_order, int_le_true, int_le_false}
 use Rattle.strided.proofs.SpacedLemmas.{spaced_canonical}
-use Rattle.si_bits.specs.Concrete.{word, number, and_of, or_of, xor_of, product_of, shl_of, shr_of, sar_of, low_of, extended_word, extension_of}
+use Rattle.si_bits.specs.Concrete.{word, and_of, or_of, xor_of, product_of, shl_of, shr_of, sar_of, low_of, extended_word, extension_of}
 use Rattle.si_bits.specs.Operations.{is_single, is_natural, bounded, up_to, least_product, greatest_product, multiple, span, mul, shl, shifted_stride, shifted, shr, sar, ceiling, masked, aligned, under_mask, and, or, xor, within_bits, low, sign_extend}
 use Rattle.si_bits.proofs.FloorLemmas.{shr-le}
-use Rattle.si_bits.proofs.MaskLemmas.{and_of-aligned_le, digits_above}
+use Rattle.si_bits.proofs.MaskLemmas.{and_of-aligned_le, digits_above, and_of-fits}
 use Rattle.si_bits.proofs.MemberLemmas.{member_fits}
-use Rattle.si_bits.proofs.ShapeLemmas.{ones_right-natural}
-use Rattle.si_bits.proofs.ShiftLemmas.{power_le, sar_of-is, power_split}
+use Rattle.si_bits.proofs.ShiftLemmas.{power_le, sar_of-is}
 use Rattle.si_bits.proofs.SignLemmas.{number_fits, word-lt, fits_between, between_fits}
 use Rattle.std.proofs.lemmas.Nat.{pow_pos}
 
 -- -- Words
-
-and_fits : (v w : ℤ) → FitsSigned w32 v → FitsSigned w32 (and_of v w)
-unfolding and_of
-and_fits v w f =
-    let low : bit_and (word v) (word w) ≤ word v = and_le_l (word v) (word w) in
-    let lt : word v < 2 ^ 32 = word-lt v f in
-    number_fits (bit_and (word v) (word w)) (omega (arith, low, lt))
 
 or_fits : (v w : ℤ) → FitsSigned w32 v → FitsSigned w32 w → FitsSigned w32 (or_of v w)
 unfolding or_of
@@ -141,8 +133,8 @@ module _ (a : Interval) (ca : IsCanonical a) where
   aligned_form m some most =
       cond_both (2 ^ trailing_zeros w32 m == m) (spaced (cond (a.stride % m == 0) a.stride m) (and_of a.lo (neg_ℤ (pos m))) (and_of a.hi (neg_ℤ (pos m)))) full IsCanonical
       (λ yes.
-      let low = between_fits (and_of a.lo (neg_ℤ (pos m))) (and_fits a.lo (neg_ℤ (pos m)) lo_fits) in
-      let high = between_fits (and_of a.hi (neg_ℤ (pos m))) (and_fits a.hi (neg_ℤ (pos m)) hi_fits) in
+      let low = between_fits (and_of a.lo (neg_ℤ (pos m))) (and_of-fits a.lo (neg_ℤ (pos m)) lo_fits) in
+      let high = between_fits (and_of a.hi (neg_ℤ (pos m))) (and_of-fits a.hi (neg_ℤ (pos m)) hi_fits) in
       spaced_canonical (cond (a.stride % m == 0) a.stride m) (and_of a.lo (neg_ℤ (pos m))) (and_of a.hi (neg_ℤ (pos m)))
       (and_of-aligned_le a.lo a.hi m some most (eqb-true (2 ^ trailing_zeros w32 m) m yes) lo_fits hi_fits up) low.0 high.1)
       (λ _. full_canonical)
@@ -221,7 +213,7 @@ module _ (a b : Interval) (ca : IsCanonical a) (cb : IsCanonical b) where
   pub and_form : IsCanonical (and a b)
   unfolding and
   and_form =
-      cond_both (is_single a && is_single b) (one (and_of a.lo b.lo)) _ IsCanonical (λ _. one_canonical (and_of a.lo b.lo) (and_fits a.lo b.lo (lo_fits a ca)))
+      cond_both (is_single a && is_single b) (one (and_of a.lo b.lo)) _ IsCanonical (λ _. one_canonical (and_of a.lo b.lo) (and_of-fits a.lo b.lo (lo_fits a ca)))
       (λ _. cond_both (is_single b) (under_mask a b.lo) _ IsCanonical (λ _. mask_form a ca b.lo (lo_fits b cb))
       (λ _. cond_both (is_single a) (under_mask b a.lo) _ IsCanonical (λ _. mask_form b cb a.lo (lo_fits a ca))
       (λ _. cond_both (is_natural a && is_natural b) (spaced 1 (pos 0) (int_min a.hi b.hi)) full IsCanonical

@@ -15,6 +15,7 @@ pub mod FlagLaws
 pub mod ArithmeticLaws
 pub mod IntervalForms
 pub mod ValueForms
+pub mod WidthLaws
 pub mod EndLaws
 pub mod RowLaws
 pub mod AlignLaws
@@ -24,6 +25,10 @@ pub mod CompareRows
 pub mod ProductRows
 pub mod QuietLaws
 pub mod AdvanceLaws
+pub mod SpanLaws
+pub mod FillLaws
+pub mod StringRows
 pub mod PlainRows
 pub mod StepLaws
 pub mod StackRows
+pub mod WrittenLaws

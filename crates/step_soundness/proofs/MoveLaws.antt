@@ -1,5 +1,5 @@
 -- Storing into an operand, and moves: the abstract state after them stands for the machine's.
-use Rattle.std.proofs.Common.{◌≡◌, ℕ, ◌+◌, ◌*◌, ◌%◌, ◌^◌, ◌<◌, ◌≤◌, ◌&&◌, Bool, true, false, cond, List, [], ◌∷◌, Option, Some, None, refl, sym, ◌∙◌, ap, subst, arith, lit<}
+use Rattle.std.proofs.Common.{◌≡◌, ℕ, ◌^◌, ◌<◌, ◌≤◌, ◌&&◌, Bool, true, false, cond, List, [], ◌∷◌, Option, Some, None, sym, ◌∙◌, ap, subst, arith}
 use Rattle.std.proofs.lemmas.Bool.{and_parts}
 use Rattle.image_map.specs.declared.image.Image.{Image}
 use Rattle.ia32_types.specs.declared.Mem.{Mem}
@@ -7,12 +7,12 @@ use Rattle.ia32_types.specs.declared.Width.{Width}
 use Rattle.ia32_types.specs.declared.Width.TheVariants.{B8, W16, D32}
 use Rattle.ia32_types.specs.declared.Operand.{Operand}
 use Rattle.ia32_types.specs.declared.Operand.TheVariants as operand
-use Rattle.ia32_types.specs.Numbers.{reg_number}
+use Rattle.ia32_types.specs.Numbers.{reg_number, size}
 use Rattle.ia32_types.specs.Operands.{IsTarget}
 use Rattle.ia32_types.proofs.NumberLemmas.{reg_number_below}
-use Rattle.ia32_semantics.specs.Effects.{Effect, sets, stores, changed, all_changed, effects_fit, effect_fits, High as HighPart}
-use Rattle.ia32_semantics.specs.Operands.{bits, size, part_of, number_bytes, store as store_reading, address as address_reading}
-use Rattle.ia32_semantics.specs.Reading.{Reading, gives, faults, outcome, ◌>>=◌}
+use Rattle.ia32_semantics.specs.Effects.{Effect, stores, all_changed, effects_fit, effect_fits, High as HighPart}
+use Rattle.ia32_semantics.specs.Operands.{bits, part_of, number_bytes, store as store_reading, address as address_reading}
+use Rattle.ia32_semantics.specs.Reading.{gives, faults, outcome, ◌>>=◌}
 use Rattle.ia32_semantics.specs.State.{State}
 use Rattle.alocs.specs.Cells.{Division}
 use Rattle.vset.specs.Values.{Values, CanonicalValues}
@@ -24,25 +24,16 @@ use Rattle.abs_semantics.specs.Operands.{address}
 use Rattle.abs_steps.specs.Effects.{puts, saves, all_done}
 use Rattle.abs_steps.specs.Rows.{view_of}
 use Rattle.abs_steps.specs.Views.{store}
-use Rattle.step_soundness.specs.Terms.{IsPart, IsOperand, address_in}
+use Rattle.step_soundness.specs.Terms.{IsOperand, address_in}
 use Rattle.step_soundness.proofs.PointerLaws.{address_has, address_form}
 use Rattle.step_soundness.proofs.CoreLaws.{puts_stands}
 use Rattle.step_soundness.proofs.OperandLaws.{address_outcome, registers_hold}
 use Rattle.step_soundness.proofs.StoreLaws.{saves_stand}
+use Rattle.step_soundness.proofs.WidthLaws.{fits_part, fits_word}
 
 abbrev effects_in : Option (List Effect × List ℕ) → List Effect
 effects_in None = []
 effects_in (Some given) = given.0
-
-fits_part : (width : Width) (n : ℕ) → n < 2 ^ bits width → IsPart (part_of width) n
-fits_part B8 n lt = lt
-fits_part W16 n lt = lt
-fits_part D32 n lt = lt
-
-fits_word : (width : Width) (n : ℕ) → n < 2 ^ bits width → n < 4294967296
-fits_word B8 n lt = omega (arith, lt)
-fits_word W16 n lt = omega (arith, lt)
-fits_word D32 n lt = lt
 
 module _ (image : Image) (lane : ℕ) (a : AbsState) (p : ℕ) (s : State) (d : Division) (known_ : IsKnown image lane a p s) (form : HasCanonical a) where
   memory_stands : (width : Width) (m : Mem) (gs : Bool) → gs ≡ false → (m.scale ≤ 8) × (m.disp < 4294967296) → (n : ℕ) (w : Values) → n < 2 ^ bits width → CanonicalValues w → HasValue lane (world_of s) n w

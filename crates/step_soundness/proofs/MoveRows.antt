@@ -1,7 +1,6 @@
 -- The rows of moves: copies, addresses, exchanges, extensions, signs, and what conditions set and choose.
-use Rattle.std.proofs.Common.{◌≡◌, ◌⊎◌, inl, inr, ℕ, ◌+◌, ◌-◌, ◌*◌, ◌/◌, ◌%◌, ◌^◌, ◌<◌, ◌≤◌, ◌==◌, ◌&&◌, Bool, true, false, not, cond, List, [], ◌∷◌, ◌++◌, Option, Some, None, refl, sym, ◌∙◌, ap, subst, arith, lit<}
+use Rattle.std.proofs.Common.{◌≡◌, ◌⊎◌, inl, inr, ℕ, ◌+◌, ◌-◌, ◌/◌, ◌%◌, ◌^◌, ◌<◌, ◌==◌, ◌&&◌, Bool, true, false, not, cond, List, [], ◌∷◌, ◌++◌, Option, Some, None, refl, sym, ◌∙◌, ap, subst, arith, lit<}
 use Rattle.std.proofs.lemmas.Bool.{false≢true, cond_both}
-use Rattle.std.proofs.lemmas.Option.{same_Some}
 use Rattle.image_map.specs.declared.image.Image.{Image}
 use Rattle.ia32_types.specs.declared.Mem.{Mem}
 use Rattle.ia32_types.specs.declared.Reg.{Reg}
@@ -12,17 +11,15 @@ use Rattle.ia32_types.specs.declared.Operand.TheVariants as operand
 use Rattle.ia32_types.specs.declared.Width.{Width}
 use Rattle.ia32_types.specs.declared.Width.TheVariants.{B8, W16, D32}
 use Rattle.ia32_types.specs.Numbers.{reg_number}
-use Rattle.ia32_types.specs.Operands.{IsAddress, IsRegister, IsPlace, IsTarget, IsValue, IsMemory, IsWide, IsNarrow, HasOne, HasTwo, HasNone, HasOneAddress}
+use Rattle.ia32_types.specs.Operands.{IsAddress, IsRegister, IsPlace, IsTarget, IsValue, IsMemory, IsWide, IsNarrow, HasOne, HasTwo, HasOneAddress}
 use Rattle.ia32_types.proofs.NumberLemmas.{reg_number_below, below_eight}
-use Rattle.ia32_semantics.specs.declared.flags.Flags.{Flags}
 use Rattle.ia32_semantics.specs.Alu.{sign}
 use Rattle.ia32_semantics.specs.Condition.{even_condition, holds}
-use Rattle.ia32_semantics.specs.Effects.{Effect, Part, Whole, Word, Low, sets, turns as turns_flag, changed, all_changed, with_part, effects_take}
+use Rattle.ia32_semantics.specs.Effects.{Whole, sets, turns as turns_flag, with_part, effects_take}
 use Rattle.ia32_semantics.specs.Operands as machine
 use Rattle.ia32_semantics.specs.Operands.{bits, low_part, part_of, condition_flags, no_flags}
 use Rattle.ia32_semantics.specs.Outcome.{going}
 use Rattle.ia32_semantics.specs.Product.{extended}
-use Rattle.ia32_semantics.specs.Reading.{Reading, gives, ◌>>=◌}
 use Rattle.ia32_semantics.specs.Rows as rows
 use Rattle.ia32_semantics.specs.Rows.{next_place, goes_on}
 use Rattle.ia32_semantics.specs.State.{State, AtByte, put}
@@ -35,19 +32,19 @@ use Rattle.abs_semantics.specs.Ownership.{IsKnown}
 use Rattle.abs_semantics.specs.Operands.{address, operand_value, with_part_value}
 use Rattle.abs_steps.specs.declared.accesses.Access.{Access}
 use Rattle.abs_steps.specs.Accesses.{of_operand}
-use Rattle.abs_steps.specs.Effects.{AbsEffect, puts, steers, done}
+use Rattle.abs_steps.specs.Effects.{puts, steers, done}
 use Rattle.abs_steps.specs.Results.{widened, sign_of, truth_of, chosen_by}
 use Rattle.abs_steps.specs.Rows as steps
 use Rattle.abs_steps.specs.Rows.{view_of}
 use Rattle.abs_steps.specs.Views.{value_of, store_to}
 use Rattle.abs_steps.specs.Views as views
 use Rattle.step_soundness.specs.Accessed.{IsAccessed}
-use Rattle.step_soundness.specs.Terms.{IsPart, IsOperand, AreAllowed, address_in}
+use Rattle.step_soundness.specs.Terms.{AreAllowed, address_in}
 use Rattle.step_soundness.proofs.ConditionLaws.{truth_has, chosen_has}
 use Rattle.step_soundness.proofs.CoreLaws.{steers_stand}
-use Rattle.step_soundness.proofs.EndLaws.{Goes, Leads, accessed_left, accessed_right, follows_append, goes_follow, goes_leads}
+use Rattle.step_soundness.proofs.EndLaws.{Leads, accessed_left, accessed_right, follows_append, goes_follow, goes_leads}
 use Rattle.step_soundness.proofs.ExtensionLaws.{sign_has, widened_has}
-use Rattle.step_soundness.proofs.GivenLaws.{Gives, gives_bind, gives_this, gives_none, gives_register, gives_flag, gives_more}
+use Rattle.step_soundness.proofs.GivenLaws.{Gives, gives_bind, gives_this, gives_register, gives_flag}
 use Rattle.step_soundness.proofs.OperandLaws.{registers_hold}
 use Rattle.step_soundness.proofs.OperationLaws.{with_operands}
 use Rattle.step_soundness.proofs.PointerLaws.{address_has, address_form}
@@ -56,7 +53,8 @@ use Rattle.step_soundness.proofs.RowLaws.{Row, Has, read_gives, value_canonical,
 use Rattle.step_soundness.proofs.SinceLaws.{Since, since_itself, since_puts, part_form}
 use Rattle.step_soundness.proofs.ValueForms.{widened_form, sign_form, truth_form, choice_form}
 use Rattle.step_soundness.proofs.WordLaws.{low_has, part_has}
-use Rattle.step_soundness.proofs.WriteLaws.{AreQuiet, Follows, sets_follow, cut_part, cut_below, cut_fits, cut_word}
+use Rattle.step_soundness.proofs.WriteLaws.{AreQuiet, sets_follow, cut_part, cut_below}
+use Rattle.step_soundness.proofs.WidthLaws.{cut_same, fits_part, fits_word}
 
 pub register_target : (width : Width) (x : Operand) → IsRegister width x → IsTarget width x
 register_target width (operand.Reg r) is = is
@@ -84,11 +82,6 @@ extended_below signed B8 W16 n narrow wide lt = cond_both (signed && sign 8 n) (
 extended_below signed B8 D32 n narrow wide lt = cond_both (signed && sign 8 n) (n + 4294967296 - 256) n (λ (k : ℕ). k < 4294967296) (λ _. omega (arith, lt)) (λ _. omega (arith, lt))
 extended_below signed W16 W16 n narrow wide lt = cond_both (signed && sign 16 n) (n + 65536 - 65536) n (λ (k : ℕ). k < 65536) (λ _. omega (arith, lt)) (λ _. omega (arith, lt))
 extended_below signed W16 D32 n narrow wide lt = cond_both (signed && sign 16 n) (n + 4294967296 - 65536) n (λ (k : ℕ). k < 4294967296) (λ _. omega (arith, lt)) (λ _. omega (arith, lt))
-
-cut_same : (width : Width) (n : ℕ) → n < 2 ^ bits width → n ≡ n % 2 ^ bits width
-cut_same B8 n lt = omega (arith, lt)
-cut_same W16 n lt = omega (arith, lt)
-cut_same D32 n lt = omega (arith, lt)
 
 -- a part of a word is a word, and the whole is what is put
 part_below : (width : Width) (old k : ℕ) → old < 4294967296 → with_part (part_of width) old k < 4294967296
@@ -255,7 +248,7 @@ module _ (image : Image) (lane p : ℕ) (a : AbsState) (s : State) (d : Division
       gives_register s (IsAccessed lane s []) _ 0 _
       (gives_this s (IsAccessed lane s []) _ (going (sets Whole 0 (extended true 16 32 (n % 65536)) ∷ []) (next_place i))
       (goes_follow image lane p a s d known_ form (next_place i) [] [] (steps.sign_of_ax (view_of a d p)) (sets Whole 0 (extended true 16 32 (n % 65536)) ∷ [])
-      (sets_follow image lane p a s d known_ form [] D32 0 (extended true 16 32 (n % 65536)) (widened true W16 D32 v) (lit< tt) (widened_form true W16 D32 v fv)
+      (sets_follow image lane p a s d known_ form D32 0 (extended true 16 32 (n % 65536)) (widened true W16 D32 v) (lit< tt) (widened_form true W16 D32 v fv)
       (subst (λ k. HasValue lane (world_of s) k (widened true W16 D32 v)) (cut_same D32 (extended true 16 32 (n % 65536)) (extended_below true W16 D32 (n % 65536) tt tt low))
       (widened_has lane (world_of s) v (n % 65536) has fv true W16 D32 tt tt low)))))
 
@@ -267,7 +260,7 @@ module _ (image : Image) (lane p : ℕ) (a : AbsState) (s : State) (d : Division
       gives_register s (IsAccessed lane s []) _ 0 _
       (gives_this s (IsAccessed lane s []) _ (going (sets Whole 2 (cond (sign 32 n) 4294967295 0) ∷ []) (next_place i))
       (goes_follow image lane p a s d known_ form (next_place i) [] [] (steps.sign_of_eax (view_of a d p)) (sets Whole 2 (cond (sign 32 n) 4294967295 0) ∷ [])
-      (sets_follow image lane p a s d known_ form [] D32 2 (cond (sign 32 n) 4294967295 0) (sign_of (a.registers 0)) (lit< tt) (sign_form (a.registers 0))
+      (sets_follow image lane p a s d known_ form D32 2 (cond (sign 32 n) 4294967295 0) (sign_of (a.registers 0)) (lit< tt) (sign_form (a.registers 0))
       (subst (λ k. HasValue lane (world_of s) k (sign_of (a.registers 0))) (cut_same D32 (cond (sign 32 n) 4294967295 0) small)
       (sign_has lane (world_of s) (a.registers 0) n (known_.stands.registers 0 (lit< tt)) (word_sized 0))))))
 
@@ -304,8 +297,8 @@ module _ (image : Image) (lane p : ℕ) (a : AbsState) (s : State) (d : Division
     part_value : (u : Values) (k : ℕ) → HasValue lane (world_of s) (k % 2 ^ bits i.width) u → HasValue lane (world_of s) (with_part (part_of i.width) (s.registers n) k) (with_part_value (part_of i.width) (a.registers n) u)
     part_value u k h =
         subst (λ j. HasValue lane (world_of s) j (with_part_value (part_of i.width) (a.registers n) u)) (cut_part i.width (s.registers n) k)
-        (part_has lane (world_of s) (a.registers n) u (form.registers n) (s.registers n) (k % 2 ^ bits i.width) (word_sized n) (cut_word i.width _ (cut_below i.width k)) (known_.stands.registers n (reg_number_below r)) h
-        (part_of i.width) (cut_fits i.width _ (cut_below i.width k)))
+        (part_has lane (world_of s) (a.registers n) u (form.registers n) (s.registers n) (k % 2 ^ bits i.width) (word_sized n) (fits_word i.width _ (cut_below i.width k)) (known_.stands.registers n (reg_number_below r)) h
+        (part_of i.width) (fits_part i.width _ (cut_below i.width k)))
 
     chosen_part : (b : Bool) → b ≡ holds c (flags_of s) → HasValue lane (world_of s) (with_part (part_of i.width) (s.registers n) (cond b v w)) chosen_value
     chosen_part b e =
@@ -332,6 +325,7 @@ module _ (image : Image) (lane p : ℕ) (a : AbsState) (s : State) (d : Division
               (since_puts image lane p a s a s d (since_itself image lane p a s known_ form) Whole n (with_part (part_of i.width) (s.registers n) (cond b v w)) chosen_value (reg_number_below r) (word_part (cond b v w)) (word_part (cond b v w))
               (choice_form c a.flags _ _ (part_form (a.registers n) new fn (part_of i.width)) (part_form (a.registers n) old fo (part_of i.width))) (chosen_part b e));
           written = λ byte fits f. absurd (false≢true f);
+          filled = λ fits. tt;
         }
 
   chosen_bytes : (width : Width) (r k byte : ℕ) → effects_take (sets (part_of width) r k ∷ []) (AtByte byte) ≡ false
@@ -385,17 +379,18 @@ module _ (image : Image) (lane p : ℕ) (a : AbsState) (s : State) (d : Division
   idle_goes i =
       gives_this s (IsAccessed lane s []) _ (going [] (next_place i))
       (goes_follow image lane p a s d known_ form (next_place i) [] [] [] []
-      (record { since = λ b t h fits. h; written = λ byte fits f. absurd (false≢true f); taken = λ byte. refl }))
+      (record { since = λ b t h fits. h; written = λ byte fits f. absurd (false≢true f); taken = λ byte. refl; filled = λ fits. tt }))
 
   pub steered_goes : (i : Instr) (set : Bool) → Gives s (IsAccessed lane s []) (Row image lane p a s d known_ form i [] [] (steers set ∷ [])) (goes_on i (turns_flag 5 set ∷ []))
   steered_goes i set =
       gives_this s (IsAccessed lane s []) _ (going (turns_flag 5 set ∷ []) (next_place i))
       (record {
         is = refl;
-        taken = λ byte f. absurd (false≢true f);
+        taken = λ byte fits f. absurd (false≢true f);
         ends = λ fits. record {
           stands = steers_stand lane d image p a s known_.stands set;
           slots = known_.whole.activations;
           written = λ byte f. absurd (false≢true f);
+          filled = tt;
         };
       })

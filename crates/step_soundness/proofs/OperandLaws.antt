@@ -1,5 +1,5 @@
 -- The values of operands hold what the machine reads.
-use Rattle.std.proofs.Common.{◌≡◌, ℕ, zero, suc, ◌+◌, ◌*◌, ◌/◌, ◌%◌, ◌^◌, ◌<◌, ◌≤◌, Bool, true, false, cond, List, [], ◌∷◌, Option, Some, None, refl, sym, ◌∙◌, ap, subst, arith, lit<}
+use Rattle.std.proofs.Common.{◌≡◌, ℕ, zero, suc, ◌+◌, ◌*◌, ◌%◌, ◌^◌, ◌<◌, ◌≤◌, Bool, true, false, cond, List, [], ◌∷◌, Option, Some, None, refl, sym, ◌∙◌, ap, subst, arith}
 use Rattle.std.specs.Option.{option_map}
 use Rattle.image_map.specs.declared.image.Image.{Image}
 use Rattle.ia32_types.specs.declared.Mem.{Mem}
@@ -8,23 +8,23 @@ use Rattle.ia32_types.specs.declared.Width.{Width}
 use Rattle.ia32_types.specs.declared.Width.TheVariants.{B8, W16, D32}
 use Rattle.ia32_types.specs.declared.Operand.{Operand}
 use Rattle.ia32_types.specs.declared.Operand.TheVariants as operand
-use Rattle.ia32_types.specs.Numbers.{reg_number}
+use Rattle.ia32_types.specs.Numbers.{reg_number, size}
 use Rattle.ia32_types.proofs.NumberLemmas.{reg_number_below}
-use Rattle.ia32_semantics.specs.Operands.{bits, size, low_part, stored_number, register_or_zero as register_reading, address as address_reading, memory_value as memory_reading, value, any_word}
+use Rattle.ia32_semantics.specs.Operands.{bits, low_part, stored_number, register_or_zero as register_reading, address as address_reading, memory_value as memory_reading, value, any_word}
 use Rattle.ia32_semantics.specs.Reading.{Reading, gives, outcome, with_byte, ◌>>=◌}
-use Rattle.ia32_semantics.specs.State.{State, bytes_at, joined, little_endian, IsSized}
+use Rattle.ia32_semantics.specs.State.{State, bytes_at, joined, little_endian}
 use Rattle.ia32_semantics.proofs.ReadingLemmas.{outcome_bind, then_outcome}
 use Rattle.alocs.specs.Cells.{Division}
-use Rattle.vset.specs.Values.{Values, CanonicalValues, only_number}
+use Rattle.vset.specs.Values.{Values, only_number}
 use Rattle.vset.specs.World.{World}
 use Rattle.vset.specs.Members.{HasValue}
 use Rattle.strided.specs.Interval.{Interval}
 use Rattle.abs_alu.proofs.WordLemmas.{numbers_has, only_has}
 use Rattle.abs_semantics.specs.States.{AbsState, HasCanonical}
 use Rattle.abs_semantics.specs.StandsFor.{world_of}
-use Rattle.abs_semantics.specs.Ownership.{IsKnown, IsRange}
+use Rattle.abs_semantics.specs.Ownership.{IsKnown}
 use Rattle.abs_semantics.specs.Accesses.{read}
-use Rattle.abs_semantics.specs.Operands.{address, any_of, numbers_or_any, read_as, memory_value, operand_value}
+use Rattle.abs_semantics.specs.Operands.{address, any_of, numbers_or_any, read_as, operand_value}
 use Rattle.abs_semantics.proofs.ReadLemmas.{reads_are_members}
 use Rattle.abs_semantics.proofs.FirstLemmas.{below_bytes, bytes_mapped}
 use Rattle.abs_semantics.proofs.RangeLemmas.{numbers_1, numbers_2, numbers_4}

@@ -1,5 +1,5 @@
 -- Operations of two operands, of one, and by a count, whose result is stored.
-use Rattle.std.proofs.Common.{◌≡◌, ◌⊎◌, inl, inr, ℕ, ◌+◌, ◌-◌, ◌*◌, ◌/◌, ◌%◌, ◌^◌, ◌<◌, ◌≤◌, ◌==◌, ◌&&◌, Bool, true, false, cond, List, [], ◌∷◌, ◌++◌, Option, Some, None, refl, sym, ◌∙◌, ap, subst, arith, lit<, pos}
+use Rattle.std.proofs.Common.{◌≡◌, ◌⊎◌, inl, inr, ℕ, ◌%◌, ◌^◌, ◌<◌, ◌==◌, ◌&&◌, true, false, cond, [], ◌∷◌, ◌++◌, Option, Some, None, refl, sym, ◌∙◌, ap, subst, arith, lit<, pos}
 use Rattle.std.specs.Int.Bits.{xor_self}
 use Rattle.std.specs.Prelude.{bit_and, bit_xor}
 use Rattle.std.specs.Prelude.{ℤ}
@@ -15,24 +15,24 @@ use Rattle.ia32_types.specs.declared.Operand.{Operand}
 use Rattle.ia32_types.specs.declared.Operand.TheVariants as operand
 use Rattle.ia32_types.specs.declared.Width.{Width}
 use Rattle.ia32_types.specs.declared.Width.TheVariants.{B8, W16, D32}
-use Rattle.ia32_types.specs.Numbers.{reg_number, is_same_reg}
-use Rattle.ia32_types.specs.Operands.{IsRegister, IsPlace, IsTarget, IsValue, IsCount, HasOne, HasTwo, HasOneAddress}
+use Rattle.ia32_types.specs.Numbers.{reg_number}
+use Rattle.ia32_types.specs.Operands.{IsTarget, IsValue, IsCount, HasOne, HasTwo, HasOneAddress}
 use Rattle.ia32_semantics.specs.declared.flags.Flags.{Flags}
 use Rattle.ia32_semantics.specs.declared.flags.FlagsOut.{FlagsOut}
-use Rattle.ia32_semantics.specs.Alu.{alu_value, alu_flags, kept_flags, sum, difference}
+use Rattle.ia32_semantics.specs.Alu.{alu_value, alu_flags, kept_flags, difference}
 use Rattle.ia32_semantics.specs.Shift.{shift_value, shift_flags, shift_flags_by, masked}
 use Rattle.ia32_semantics.specs.Operands as machine
 use Rattle.ia32_semantics.specs.Operands.{bits, low_part}
-use Rattle.ia32_semantics.specs.Reading.{Reading, gives, ◌>>=◌}
+use Rattle.ia32_semantics.specs.Reading.{gives}
 use Rattle.ia32_semantics.specs.Rows as rows
 use Rattle.ia32_semantics.specs.Rows.{next_place, goes_on}
 use Rattle.ia32_semantics.specs.State.{State}
 use Rattle.alocs.specs.Cells.{Division}
-use Rattle.vset.specs.Values.{Values, Top, Parts, CanonicalValues, only_number}
+use Rattle.vset.specs.Values.{Values, Top, Parts, CanonicalValues}
 use Rattle.vset.specs.Members.{HasValue}
 use Rattle.abs_alu.specs.Computed.{is_computed, computed, computed_flags}
 use Rattle.abs_alu.specs.Flags.{is_none}
-use Rattle.abs_alu.specs.Operands.{takes_second, known, single_word}
+use Rattle.abs_alu.specs.Operands.{takes_second, known}
 use Rattle.abs_alu.specs.Results.{value}
 use Rattle.abs_alu.specs.Runs.{AreAfter}
 use Rattle.abs_alu.specs.Words.{number}
@@ -40,7 +40,6 @@ use Rattle.abs_alu.proofs.WordLemmas.{known_is}
 use Rattle.abs_semantics.specs.States.{AbsState, HasCanonical}
 use Rattle.abs_semantics.specs.StandsFor.{world_of}
 use Rattle.abs_semantics.specs.Ownership.{IsKnown}
-use Rattle.abs_steps.specs.declared.accesses.Access.{Access}
 use Rattle.abs_steps.specs.Accesses.{of_operand}
 use Rattle.abs_steps.specs.Flags.{sets_of}
 use Rattle.abs_steps.specs.Results.{is_own_inverse, is_dword, are_one_register, is_zero, align_of, lowered, lowered_by, first_of, aligned_or, keeps_flags}
@@ -55,9 +54,8 @@ use Rattle.step_soundness.proofs.EndLaws.{accessed_left, accessed_right}
 use Rattle.step_soundness.proofs.FlagLaws.{AreDrawn, are_drawn_after, flags_drawn}
 use Rattle.step_soundness.proofs.GivenLaws.{Gives, gives_bind, gives_this, gives_flag}
 use Rattle.step_soundness.proofs.ReadLaws.{IsRead, IsSelf}
-use Rattle.step_soundness.proofs.RowLaws.{Row, Has, read_gives, value_canonical, arithmetic_goes, spelt_target, spelt_value, spelt_place}
+use Rattle.step_soundness.proofs.RowLaws.{Row, Has, read_gives, value_canonical, arithmetic_goes, spelt_target, spelt_value}
 use Rattle.step_soundness.proofs.ValueForms.{small_form}
-use Rattle.step_soundness.proofs.WordLaws.{word_has}
 use Rattle.step_soundness.proofs.WriteLaws.{AreQuiet}
 use Rattle.abs_alu.proofs.WordLemmas.{number_has}
 

@@ -1,5 +1,5 @@
 -- What an address resolves to doesn't depend on registers, flags and cells; and what writes leave as it was.
-use Rattle.std.proofs.Common.{◌≡◌, ℕ, zero, suc, ◌+◌, Bool, true, false, cond, List, [], ◌∷◌, ◌++◌, Option, Some, None, refl, sym, ◌∙◌, ap, subst}
+use Rattle.std.proofs.Common.{◌≡◌, ℕ, zero, suc, ◌+◌, Bool, List, [], ◌++◌, Option, Some, None, refl, ap}
 use Rattle.image_map.specs.declared.image.Image.{Image}
 use Rattle.image_map.specs.declared.region.Cell.{Cell}
 use Rattle.alocs.specs.Cells.{Division, cells_of}
@@ -10,7 +10,7 @@ use Rattle.std.specs.List.{flat_map}
 use Rattle.abs_semantics.specs.declared.parts.CellValue.{CellValue}
 use Rattle.abs_semantics.specs.declared.parts.RangeValue.{RangeValue}
 use Rattle.abs_semantics.specs.States.{AbsState, rebuilt}
-use Rattle.abs_semantics.specs.Resolve.{Met, met_after, verdict, next_of, rising_onto, levels, told_of_few, most_links, resolve}
+use Rattle.abs_semantics.specs.Resolve.{met_after, verdict, next_of, rising_onto, levels, told_of_few, most_links, resolve}
 use Rattle.std.specs.Prelude.{map, filter}
 use Rattle.abs_semantics.specs.Touching.{sure_place, any_touches, touches, cell_at, is_within}
 use Rattle.abs_semantics.specs.Accesses.{sure_entries, written_to, written_by, write, overwritten, changed_value, without_value, untouched_fact, may_change, value_if_met, value_if_range, listed}

@@ -1,16 +1,15 @@
 -- Each row of moves and arithmetic goes on as the abstract row tells.
-use Rattle.std.proofs.Common.{◌≡◌, ℕ, Bool, true, false, cond, List, [], ◌∷◌, ◌++◌, Option, Some, None, refl, sym, ◌∙◌, ap, subst}
+use Rattle.std.proofs.Common.{◌≡◌, ℕ, true, false, refl}
 use Rattle.std.proofs.lemmas.Bool.{false≢true}
 use Rattle.image_map.specs.declared.image.Image.{Image}
 use Rattle.ia32_types.specs.declared.Op.{Op}
 use Rattle.ia32_types.specs.declared.Op.TheVariants as op
 use Rattle.ia32_types.specs.declared.Instr.{Instr}
-use Rattle.ia32_types.specs.declared.Operand.{Operand}
 use Rattle.ia32_types.specs.Operands.{HasOperands}
-use Rattle.ia32_semantics.specs.declared.flags.Flags.{Flags}
-use Rattle.ia32_semantics.specs.Alu.{alu_value, alu_flags, kept_flags}
+use Rattle.ia32_semantics.specs.Alu.{alu_value, alu_flags}
 use Rattle.ia32_semantics.specs.Product.{product_flags}
 use Rattle.ia32_semantics.specs.Rows as rows
+use Rattle.ia32_semantics.specs.Rows.{next_place}
 use Rattle.ia32_semantics.specs.State.{State}
 use Rattle.alocs.specs.Cells.{Division}
 use Rattle.abs_alu.specs.Computed.{is_computed, computed, computed_flags}
@@ -21,15 +20,16 @@ use Rattle.abs_steps.specs.Accesses as accesses
 use Rattle.abs_steps.specs.Results.{aligned_or, keeps_flags}
 use Rattle.abs_steps.specs.Rows as steps
 use Rattle.abs_steps.specs.Rows.{view_of}
-use Rattle.step_soundness.specs.Accessed.{IsAccessed}
+use Rattle.step_soundness.specs.Accessed.{IsAccessed, always_written}
 use Rattle.step_soundness.specs.Steps.{is_plain}
 use Rattle.step_soundness.proofs.CompareRows.{compared_goes, cmp_learns, test_learns}
+use Rattle.step_soundness.proofs.EndLaws.{Goes}
 use Rattle.step_soundness.proofs.GivenLaws.{Gives}
 use Rattle.step_soundness.proofs.MoveRows.{copied_goes, addressed_goes, exchanged_goes, widened_goes, ax_goes, eax_goes, tested_goes, chosen_goes, idle_goes, steered_goes}
 use Rattle.step_soundness.proofs.OperationLaws.{pair_goes, own_add, own_or, own_adc, own_sbb, own_and, own_sub, own_xor, altered_goes, shifted_goes}
 use Rattle.step_soundness.proofs.ProductRows.{IsProductOf, multiplied_goes, imul_goes, divided_goes}
-use Rattle.step_soundness.proofs.RowLaws.{Row, Has}
 use Rattle.step_soundness.proofs.StackRows.{pushed_goes, popped_goes, left_goes}
+use Rattle.step_soundness.proofs.StringRows.{moved_goes, filled_goes}
 use Rattle.step_soundness.proofs.WriteLaws.{AreQuiet}
 
 module _ (image : Image) (lane p : ℕ) (a : AbsState) (s : State) (d : Division) (known_ : IsKnown image lane a p s) (form : HasCanonical a) where
@@ -42,8 +42,8 @@ module _ (image : Image) (lane p : ℕ) (a : AbsState) (s : State) (d : Division
   of_imul = record { is = refl; two = refl; value_is = λ width m n. refl; after = λ width m n drawn b now h. (h.0, tt, tt, tt, h.4); keeps = λ w v. refl }
 
   pub plain_goes : (o : Op) → is_plain o ≡ true → (i : Instr) → HasOperands o i.width i.dst i.src i.imm → AreQuiet a p (accesses.writes o a i)
-      → Gives s (IsAccessed lane s (accesses.reads o a i)) (Row image lane p a s d known_ form i (accesses.reads o a i) (accesses.writes o a i) (steps.row o (view_of a d p) i)) (rows.row o i)
-  unfolding is_plain accesses.reads accesses.writes steps.row rows.row is_computed takes_second computed computed_flags alu_value alu_flags keeps_flags aligned_or
+      → Gives s (IsAccessed lane s (accesses.reads o a i)) (Goes image lane p a s d (next_place i) (accesses.reads o a i) (accesses.writes o a i) (always_written o a i) (steps.row o (view_of a d p) i)) (rows.row o i)
+  unfolding is_plain accesses.reads accesses.writes always_written steps.row rows.row is_computed takes_second computed computed_flags alu_value alu_flags keeps_flags aligned_or
   plain_goes op.Add plain i fits quiet = pair_goes image lane p a s d known_ form op.Add refl refl i (λ x y fx fy m n hm hn. own_add image lane p a s d known_ form _ i.width x y m n hm hn) i.dst i.src i.imm fits quiet
   plain_goes op.Or plain i fits quiet = pair_goes image lane p a s d known_ form op.Or refl refl i (λ x y fx fy m n hm hn. own_or image lane p a s d known_ form _ i.width x y m n hm hn) i.dst i.src i.imm fits quiet
   plain_goes op.Adc plain i fits quiet = pair_goes image lane p a s d known_ form op.Adc refl refl i (λ x y fx fy m n hm hn. own_adc image lane p a s d known_ form _ i.width x y m n hm hn) i.dst i.src i.imm fits quiet
@@ -89,7 +89,7 @@ module _ (image : Image) (lane p : ℕ) (a : AbsState) (s : State) (d : Division
   plain_goes op.Ror plain i fits quiet = shifted_goes image lane p a s d known_ form op.Ror refl refl (λ w v. refl) refl (λ width m n. refl) (λ width m n. refl) (λ width x y v. refl) i i.dst i.src i.imm fits quiet
   plain_goes op.Div plain i fits quiet = divided_goes image lane p a s d known_ form false i i.dst i.src i.imm fits
   plain_goes op.Idiv plain i fits quiet = divided_goes image lane p a s d known_ form true i i.dst i.src i.imm fits
-  plain_goes (op.Movs rep) plain i fits quiet = absurd (false≢true plain)
-  plain_goes (op.Stos rep) plain i fits quiet = absurd (false≢true plain)
+  plain_goes (op.Movs rep) plain i fits quiet = moved_goes image lane p a s d known_ form rep i quiet
+  plain_goes (op.Stos rep) plain i fits quiet = filled_goes image lane p a s d known_ form rep i quiet
   plain_goes op.Cld plain i fits quiet = steered_goes image lane p a s d known_ form i false
   plain_goes op.Std plain i fits quiet = steered_goes image lane p a s d known_ form i true

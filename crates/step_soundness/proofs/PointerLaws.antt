@@ -1,11 +1,7 @@
 -- The stack pointer, the pointers of string instructions, and addresses.
-use Rattle.std.proofs.Common.{◌≡◌, ℕ, ◌+◌, ◌-◌, ◌*◌, ◌%◌, ◌<◌, ◌≤◌, ◌==◌, Bool, true, false, cond, [], ◌∷◌, Option, Some, None, refl, sym, ◌∙◌, ap, subst, pos, ◌≤ℤ◌, ◌&&◌, ℤ, arith, lit<}
-use Rattle.std.proofs.lemmas.Int.{ints, clamps}
-use Rattle.std.proofs.lemmas.Bool.{eqb-true, cond_both, and_parts}
-use Rattle.std.specs.Prelude.{int_le, unsigned_abs}
-use Rattle.std.specs.Int.{int_min, int_max}
-use Rattle.image_map.specs.declared.region.RegionId.TheVariants.{Global}
-use Rattle.vset.specs.Operations.{part}
+use Rattle.std.proofs.Common.{◌≡◌, ℕ, ◌+◌, ◌-◌, ◌*◌, ◌%◌, ◌<◌, ◌≤◌, ◌==◌, Bool, true, false, cond, Option, Some, None, refl, sym, ◌∙◌, ap, subst, pos, arith, lit<}
+use Rattle.std.proofs.lemmas.Int.{ints}
+use Rattle.std.proofs.lemmas.Bool.{eqb-true, cond_both}
 use Rattle.std.proofs.Math.Nat.{mod-add-mod}
 use Rattle.ia32_types.specs.declared.Reg.{Reg}
 use Rattle.ia32_types.specs.declared.Mem.{Mem}
@@ -14,14 +10,12 @@ use Rattle.ia32_types.proofs.NumberLemmas.{reg_number_below}
 use Rattle.ia32_semantics.specs.State.{State}
 use Rattle.ia32_semantics.specs.Strings.{stepped as steps}
 use Rattle.si_bits.specs.Concrete as concrete
-use Rattle.si_bits.specs.Operations.{is_single, bounded, least_product, greatest_product, multiple, span, mul}
+use Rattle.si_bits.specs.Operations.{mul}
 use Rattle.si_bits.proofs.MultipleLemmas.{member-mul}
 use Rattle.si_bits.proofs.ReadingLemmas.{product_of-number}
 use Rattle.si_bits.proofs.SignLemmas.{number-low, number_fits}
-use Rattle.strided.specs.Interval.{Interval, IsMember, IsCanonical, one, full, least, greatest}
-use Rattle.strided.specs.Operations.{spaced}
-use Rattle.strided.proofs.MemberLemmas.{one_canonical, full_canonical, int_le_true}
-use Rattle.strided.proofs.SpacedLemmas.{spaced_canonical}
+use Rattle.strided.specs.Interval.{Interval, IsMember, IsCanonical, one}
+use Rattle.strided.proofs.MemberLemmas.{one_canonical}
 use Rattle.strided.proofs.SumLemmas.{member_one}
 use Rattle.vset.specs.Values.{Values, CanonicalValues, only_number}
 use Rattle.vset.specs.Operations.{add, sub, join}
@@ -30,7 +24,7 @@ use Rattle.vset.specs.Members.{HasValue}
 use Rattle.vset.proofs.MemberLemmas.{join_has_left, join_has_right}
 use Rattle.vset.proofs.SumLemmas.{add_has, sub_has}
 use Rattle.abs_alu.specs.Words.{numbers, number}
-use Rattle.abs_alu.proofs.CanonicalLemmas.{number_canonical, settled_canonical, add_values_canonical, sub_values_canonical, only_canonical}
+use Rattle.abs_alu.proofs.CanonicalLemmas.{number_canonical, add_values_canonical, sub_values_canonical, only_canonical, numbers_canonical}
 use Rattle.abs_alu.proofs.WordLemmas.{numbers_has, number_has, only_has}
 use Rattle.abs_semantics.specs.States.{AbsState}
 use Rattle.abs_semantics.specs.Operands.{word_number, base_value, multiple_of, scaled, index_value, address}
@@ -39,36 +33,7 @@ use Rattle.abs_steps.specs.Strings.{stepped, grown}
 use Rattle.abs_steps.specs.Rows.{pushed_at, risen}
 use Rattle.step_soundness.specs.Terms.{RegistersHold, register_or_zero, address_in}
 use Rattle.step_soundness.proofs.WordLaws.{word_has}
-
--- -- Products have the one form
-
-bounded_canonical : (s : ℕ) (lo hi : ℤ) → lo ≤ℤ hi → IsCanonical (bounded s lo hi)
-unfolding bounded
-bounded_canonical s lo hi order =
-    cond_both (int_le least lo && int_le hi greatest) (spaced s lo hi) full IsCanonical
-    (λ is. let both = and_parts (int_le least lo) (int_le hi greatest) is in spaced_canonical s lo hi order (int_le_true least lo both.0) (int_le_true hi greatest both.1))
-    (λ _. full_canonical)
-
-multiple_canonical : (a : Interval) (c : ℤ) → IsCanonical (multiple a c)
-unfolding multiple
-multiple_canonical a c = bounded_canonical (a.stride * unsigned_abs c) (least_product a c) (greatest_product a c) (omega (arith, ints, clamps))
-
-span_canonical : (a b : Interval) → IsCanonical (span a b)
-unfolding span
-span_canonical a b =
-    bounded_canonical 1 (int_min (least_product a b.lo) (least_product a b.hi)) (int_max (greatest_product a b.lo) (greatest_product a b.hi)) (omega (arith, ints, clamps))
-
-mul_canonical : (a b : Interval) → IsCanonical a → IsCanonical b → IsCanonical (mul a b)
-unfolding mul concrete.product_of
-mul_canonical a b ca cb =
-    cond_both (is_single a && is_single b) (one (concrete.product_of a.lo b.lo)) (cond (is_single b) (multiple a b.lo) (cond (is_single a) (multiple b a.lo) (span a b))) IsCanonical
-    (λ _. one_canonical (concrete.product_of a.lo b.lo) (number_fits (concrete.word a.lo * concrete.word b.lo % 4294967296) (omega arith)))
-    (λ _. cond_both (is_single b) (multiple a b.lo) (cond (is_single a) (multiple b a.lo) (span a b)) IsCanonical
-    (λ _. multiple_canonical a b.lo)
-    (λ _. cond_both (is_single a) (multiple b a.lo) (span a b) IsCanonical (λ _. multiple_canonical b a.lo) (λ _. span_canonical a b)))
-
-numbers_form : (x : Interval) → IsCanonical x → CanonicalValues (numbers x)
-numbers_form x form = settled_canonical (part Global x ∷ []) (form, tt)
+use Rattle.step_soundness.proofs.IntervalForms.{mul_form}
 
 -- a sum of a remainder
 sum_mod : (n m : ℕ) → (n + m % 4294967296) % 4294967296 ≡ (n + m) % 4294967296
@@ -150,7 +115,7 @@ module _ (lane : ℕ) (world : World) where
     grown_has z less v fv n has =
         let sum : (n + count * z % 4294967296) % 4294967296 ≡ (n + count * z) % 4294967296 = sum_mod n (count * z) in
         subst (λ m. HasValue lane world m (grown z c v)) sum
-        (add_has lane world n (count * z % 4294967296) v (numbers (mul c (one (pos z)))) (omega arith) fv (numbers_form (mul c (one (pos z))) (mul_canonical c (one (pos z)) form (one_canonical (pos z) (omega (arith, ints))))) has (times_has z less))
+        (add_has lane world n (count * z % 4294967296) v (numbers (mul c (one (pos z)))) (omega arith) fv (numbers_canonical (mul c (one (pos z))) (mul_form c (one (pos z)) form (one_canonical (pos z) (omega (arith, ints))))) has (times_has z less))
 
 -- -- Addresses
 
@@ -172,7 +137,7 @@ module _ (lane : ℕ) (world : World) (a : AbsState) (s : State) (r : RegistersH
   multiple_form : (v : Values) → CanonicalValues v → (scale : ℕ) → scale < 2147483648 → (o : Option Interval) → only_number v ≡ o → CanonicalValues (multiple_of scale o)
   multiple_form v form scale less None e = tt
   multiple_form v form scale less (Some x) e =
-      numbers_form (mul x (one (pos scale))) (mul_canonical x (one (pos scale)) (only_canonical v x form e) (one_canonical (pos scale) (omega (arith, ints))))
+      numbers_canonical (mul x (one (pos scale))) (mul_form x (one (pos scale)) (only_canonical v x form e) (one_canonical (pos scale) (omega (arith, ints))))
 
   scaled_has : (v : Values) → CanonicalValues v → (n : ℕ) → n < 4294967296 → HasValue lane world n v → (scale : ℕ) → scale < 2147483648 → HasValue lane world (n * scale % 4294967296) (scaled scale v)
   scaled_has v form n lt has scale less =

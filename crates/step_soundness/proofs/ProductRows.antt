@@ -13,18 +13,16 @@ use Rattle.ia32_types.specs.declared.Operand.{Operand}
 use Rattle.ia32_types.specs.declared.Operand.TheVariants as operand
 use Rattle.ia32_types.specs.declared.Width.{Width}
 use Rattle.ia32_types.specs.declared.Width.TheVariants.{B8, W16, D32}
-use Rattle.ia32_types.specs.Operands.{IsRegister, IsPlace, IsTarget, IsWide, HasOne, IsProduct}
-use Rattle.ia32_types.specs.Forms.{width_limit}
+use Rattle.ia32_types.specs.Operands.{IsPlace, IsTarget, HasOne, IsProduct}
 use Rattle.ia32_semantics.specs.declared.flags.Flags.{Flags}
 use Rattle.ia32_semantics.specs.declared.flags.FlagsOut.{FlagsOut}
-use Rattle.ia32_semantics.specs.Alu.{sign, kept_flags}
+use Rattle.ia32_semantics.specs.Alu.{sign}
 use Rattle.ia32_semantics.specs.Division.{dividend, unsigned_division, signed_as, magnitude, quotient_fits, division_of_sizes, signed_division, division, division_flags}
-use Rattle.ia32_semantics.specs.Effects.{Effect, Part, Whole, Word, Low, High, sets, changed, all_changed, with_part, effects_fit, effects_write, effects_take}
+use Rattle.ia32_semantics.specs.Effects.{Whole, Word, Low, High, sets, changed, with_part, effects_take}
 use Rattle.ia32_semantics.specs.Operands as machine
 use Rattle.ia32_semantics.specs.Operands.{bits, low_part}
 use Rattle.ia32_semantics.specs.Outcome.{going}
 use Rattle.ia32_semantics.specs.Product.{product_low, product_high, product_flags}
-use Rattle.ia32_semantics.specs.Reading.{Reading, gives, ◌>>=◌}
 use Rattle.ia32_semantics.specs.Rows as rows
 use Rattle.ia32_semantics.specs.Rows.{next_place, goes_on}
 use Rattle.ia32_semantics.specs.State.{State, AtByte, put}
@@ -44,7 +42,7 @@ use Rattle.abs_semantics.specs.Operands.{operand_value, word_number}
 use Rattle.abs_semantics.proofs.FormLemmas.{word_form}
 use Rattle.abs_steps.specs.declared.accesses.Access.{Access}
 use Rattle.abs_steps.specs.Accesses.{of_operand, factors_read, product_written}
-use Rattle.abs_steps.specs.Effects.{AbsEffect, puts, frees, done, all_done}
+use Rattle.abs_steps.specs.Effects.{puts, frees, done}
 use Rattle.abs_steps.specs.Flags.{sets_of}
 use Rattle.abs_steps.specs.Results.{is_zero, aligned_or, keeps_flags, quotient_of, known_quotient}
 use Rattle.abs_steps.specs.Rows as steps
@@ -53,16 +51,16 @@ use Rattle.abs_steps.specs.Views.{value_of}
 use Rattle.step_soundness.specs.Accessed.{IsAccessed}
 use Rattle.step_soundness.specs.Terms.{IsOperand}
 use Rattle.step_soundness.proofs.ArithmeticLaws.{AreTaken}
-use Rattle.step_soundness.proofs.EndLaws.{Leads, IsFlagged, flags_freed, leads_follow, goes_flagged, accessed_left, accessed_right}
+use Rattle.step_soundness.proofs.EndLaws.{Leads, flags_freed, goes_flagged, accessed_left, accessed_right}
 use Rattle.step_soundness.proofs.FlagLaws.{AreDrawn, flags_drawn}
 use Rattle.step_soundness.proofs.GivenLaws.{Gives, gives_bind, gives_this, gives_none, gives_register}
 use Rattle.step_soundness.proofs.MoveRows.{register_target, whole_is}
 use Rattle.step_soundness.proofs.OperationLaws.{with_operands}
-use Rattle.step_soundness.proofs.ReadLaws.{IsRead, IsSelf, low_below}
+use Rattle.step_soundness.proofs.ReadLaws.{low_below}
 use Rattle.step_soundness.proofs.RowLaws.{Row, Has, read_gives, value_canonical, arithmetic_has, arithmetic_form, arithmetic_flags, arithmetic_goes, limit_below, spelt_target, spelt_place}
 use Rattle.step_soundness.proofs.SinceLaws.{Since, since_itself, since_puts}
 use Rattle.step_soundness.proofs.WordLaws.{low_has, word_has}
-use Rattle.step_soundness.proofs.WriteLaws.{AreQuiet, Follows, sets_since}
+use Rattle.step_soundness.proofs.WriteLaws.{AreQuiet, sets_since}
 
 -- -- A register of which nothing is known
 
@@ -189,16 +187,19 @@ module _ (image : Image) (lane p : ℕ) (a : AbsState) (s : State) (d : Division
       record {
         since = λ fits. sets_since image lane p a s d known_ form D32 2 high Top (lit< tt) tt tt _ _ (sets_since image lane p a s d known_ form D32 0 low v (lit< tt) fv has a s here);
         written = λ byte fits f. absurd (false≢true f);
+        filled = λ fits. tt;
       }
   halves_lead W16 low high v fv has =
       record {
         since = λ fits. since_word image lane p a s d _ _ (since_word image lane p a s d a s here 0 low (lit< tt)) 2 high (lit< tt);
         written = λ byte fits f. absurd (false≢true f);
+        filled = λ fits. tt;
       }
   halves_lead B8 low high v fv has =
       record {
         since = λ fits. since_kept image lane p a s d _ _ (since_word image lane p a s d a s here 0 (low + 256 * high) (lit< tt)) 2 (lit< tt);
         written = λ byte fits f. absurd (false≢true f);
+        filled = λ fits. tt;
       }
 
   eax_has : (width : Width) → Has image lane p a s d known_ form width (operand.Reg Eax) (low_part width (s.registers 0))
@@ -325,6 +326,7 @@ module _ (image : Image) (lane p : ℕ) (a : AbsState) (s : State) (d : Division
             sets_since image lane p a s d known_ form D32 2 r (word_number r) (lit< tt) (word_form r lr) (subst (λ k. HasValue lane (world_of s) k (word_number r)) cut_r (word_has lane (world_of s) r lr)) _ _
             (sets_since image lane p a s d known_ form D32 0 q (word_number q) (lit< tt) (word_form q lq) (subst (λ k. HasValue lane (world_of s) k (word_number q)) cut_q (word_has lane (world_of s) q lq)) a s here);
         written = λ byte fits f. absurd (false≢true f);
+        filled = λ fits. tt;
       }
 
   any_lead : (q r : ℕ) → Leads image lane p a s d [] (puts Whole 0 Top ∷ puts Whole 2 Top ∷ []) (sets Whole 0 q ∷ sets Whole 2 r ∷ [])
@@ -332,16 +334,18 @@ module _ (image : Image) (lane p : ℕ) (a : AbsState) (s : State) (d : Division
       record {
         since = λ fits. sets_since image lane p a s d known_ form D32 2 r Top (lit< tt) tt tt _ _ (sets_since image lane p a s d known_ form D32 0 q Top (lit< tt) tt tt a s here);
         written = λ byte fits f. absurd (false≢true f);
+        filled = λ fits. tt;
       }
 
   quotient_lead : (signed : Bool) (width : Width) (x : Operand) (n : ℕ) → Has image lane p a s d known_ form width x n → (parts q : ℕ × ℕ) → AreHalves width parts → division (bits width) signed parts.0 parts.1 n ≡ Some q
       → Leads image lane p a s d [] (steps.quotient_effects width (known_quotient width signed (a.registers 2) (a.registers 0) (val width x))) (rows.quotient_effects width q.0 q.1)
   quotient_lead signed B8 x n hn parts q hp e =
-      record { since = λ fits. since_bytes image lane p a s d a s here 0 q.0 q.1 (lit< tt); written = λ byte fits f. absurd (false≢true f) }
+      record { since = λ fits. since_bytes image lane p a s d a s here 0 q.0 q.1 (lit< tt); written = λ byte fits f. absurd (false≢true f); filled = λ fits. tt }
   quotient_lead signed W16 x n hn parts q hp e =
       record {
         since = λ fits. since_word image lane p a s d _ _ (since_word image lane p a s d a s here 0 q.0 (lit< tt)) 2 q.1 (lit< tt);
         written = λ byte fits f. absurd (false≢true f);
+        filled = λ fits. tt;
       }
   quotient_lead signed D32 x n hn parts q hp e = by (known 32 (a.registers 2)) (known 32 (a.registers 0)) (known 32 (val D32 x)) refl refl refl
     where

@@ -1,13 +1,12 @@
 -- What it means for the accesses of an instruction that no warning stands there.
-use Rattle.std.proofs.Common.{◌≡◌, ℕ, ◌&&◌, ◌||◌, Bool, true, false, not, cond, List, [], ◌∷◌, Option, Some, None, refl, sym, ◌∙◌, ap, subst}
+use Rattle.std.proofs.Common.{◌≡◌, ℕ, ◌&&◌, Bool, true, false, not, cond, List, [], ◌∷◌, Option, Some, None, refl, sym, ◌∙◌, ap}
 use Rattle.std.specs.Prelude.{filter}
 use Rattle.std.specs.List.{list_any}
-use Rattle.std.proofs.lemmas.Bool.{true≢false, false≢true}
+use Rattle.std.proofs.lemmas.Bool.{true≢false}
 use Rattle.image_map.specs.declared.image.Image.{Image}
 use Rattle.ia32_types.specs.declared.Instr.{Instr}
 use Rattle.ia32_semantics.proofs.EffectLemmas.{or_false_left, or_false_right}
 use Rattle.alocs.specs.Cells.{Division}
-use Rattle.vset.specs.Values.{Values}
 use Rattle.abs_semantics.specs.declared.parts.Reason.{Reason}
 use Rattle.abs_semantics.specs.declared.parts.Reason.TheVariants as reason
 use Rattle.abs_semantics.specs.Resolve.{same_reason}
@@ -20,7 +19,7 @@ use Rattle.abs_steps.specs.Places.{Content, Instruction}
 use Rattle.abs_steps.specs.Rows.{view_of}
 use Rattle.abs_steps.specs.Successors.{is_call}
 use Rattle.abs_steps.specs.Views.{View}
-use Rattle.abs_steps.specs.Warnings.{resolved_to, resolved, has_reason, writes_slot_in, writes_slot, loses_stack, has_unresolved, instruction_warns, has_warning, names, warnings}
+use Rattle.abs_steps.specs.Warnings.{resolved_to, has_reason, writes_slot_in, writes_slot, loses_stack, has_unresolved, instruction_warns, has_warning, names, warnings}
 use Rattle.step_soundness.proofs.WriteLaws.{IsQuiet, AreQuiet}
 
 -- a test that picks none of a list fails on each

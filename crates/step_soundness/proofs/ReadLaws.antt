@@ -1,5 +1,5 @@
 -- What a row reads of its operands is among their values, and the bytes that it asks for are accessed.
-use Rattle.std.proofs.Common.{◌≡◌, ◌⊎◌, inl, inr, ℕ, zero, suc, ◌+◌, ◌-◌, ◌*◌, ◌/◌, ◌%◌, ◌^◌, ◌<◌, ◌≤◌, ◌==◌, ◌||◌, Bool, true, false, cond, List, [], ◌∷◌, Option, Some, None, refl, sym, ◌∙◌, ap, subst, arith, lit<, eqb-true}
+use Rattle.std.proofs.Common.{◌≡◌, ◌⊎◌, inl, inr, ℕ, zero, suc, ◌+◌, ◌-◌, ◌*◌, ◌/◌, ◌%◌, ◌^◌, ◌<◌, ◌≤◌, ◌==◌, ◌||◌, Bool, true, false, cond, List, [], ◌∷◌, Option, Some, None, refl, sym, ◌∙◌, ap, subst, arith, eqb-true}
 use Rattle.std.specs.Prelude.{is_some}
 use Rattle.std.specs.Option.{option_map}
 use Rattle.std.proofs.lemmas.Bool.{false≢true, true≢false}
@@ -11,19 +11,20 @@ use Rattle.ia32_types.specs.declared.Width.{Width}
 use Rattle.ia32_types.specs.declared.Width.TheVariants.{B8, W16, D32}
 use Rattle.ia32_types.specs.declared.Operand.{Operand}
 use Rattle.ia32_types.specs.declared.Operand.TheVariants as operand
-use Rattle.ia32_types.specs.Numbers.{reg_number}
-use Rattle.ia32_semantics.specs.Operands.{bits, size, low_part, stored_number, register_or_zero as register_reading, address as address_reading, memory_value as memory_reading, value as value_reading, any_word}
-use Rattle.ia32_semantics.specs.Reading.{Reading, gives, outcome, asks, with_byte, ◌>>=◌}
+use Rattle.ia32_types.specs.Numbers.{reg_number, size}
+use Rattle.ia32_semantics.specs.Operands.{bits, low_part, stored_number, register_or_zero as register_reading, address as address_reading, memory_value as memory_reading, value as value_reading, any_word}
+use Rattle.ia32_semantics.specs.Reading.{gives, outcome, asks, with_byte, ◌>>=◌}
 use Rattle.ia32_semantics.specs.State.{State, AtByte, bytes_at, little_endian}
 use Rattle.ia32_semantics.proofs.EffectLemmas.{or_true}
 use Rattle.ia32_semantics.proofs.ReadingLemmas.{asks_bind, then_asks}
+use Rattle.ia32_semantics.proofs.OperandLemmas.{byte_fits}
 use Rattle.alocs.specs.Cells.{Division}
 use Rattle.vset.specs.Values.{Values, Top}
 use Rattle.vset.specs.World.{World}
 use Rattle.vset.specs.Members.{HasValue}
 use Rattle.abs_semantics.specs.States.{AbsState, HasCanonical}
 use Rattle.abs_semantics.specs.StandsFor.{world_of}
-use Rattle.abs_semantics.specs.Ownership.{IsKnown, IsRange}
+use Rattle.abs_semantics.specs.Ownership.{IsKnown}
 use Rattle.abs_semantics.specs.Accesses.{read}
 use Rattle.abs_semantics.specs.Operands.{address, any_of, read_as, operand_value}
 use Rattle.abs_semantics.proofs.FirstLemmas.{bytes_mapped}
@@ -129,11 +130,6 @@ low_below B8 n lt = omega arith
 low_below W16 n lt = omega arith
 low_below D32 n lt = lt
 
-small_fits : (width : Width) (n : ℕ) → n < 256 → n < 2 ^ bits width
-small_fits B8 n lt = lt
-small_fits W16 n lt = omega (arith, lt)
-small_fits D32 n lt = omega (arith, lt)
-
 number_in : Option (ℕ × List ℕ) → ℕ
 number_in None = 0
 number_in (Some given) = given.0
@@ -192,7 +188,7 @@ module _ (image : Image) (lane : ℕ) (a : AbsState) (p : ℕ) (s : State) (d : 
   value_sure width (operand.High r) spelt words rest n e =
       let same : s.registers (reg_number r) / 256 % 256 ≡ n = ap number_in e in
       let below : s.registers (reg_number r) / 256 % 256 < 256 = omega arith in
-      (inl (subst (λ k. k < 2 ^ bits width) same (small_fits width (s.registers (reg_number r) / 256 % 256) below)), tt)
+      (inl (subst (λ k. k < 2 ^ bits width) same (byte_fits width (s.registers (reg_number r) / 256 % 256) below)), tt)
   value_sure width (operand.Imm k) spelt words rest n e =
       let same : low_part width k ≡ n = ap number_in e in (inl (subst (λ j. j < 2 ^ bits width) same (low_below width k spelt)), sym same)
   value_sure width (operand.Mem m) spelt words rest n e = (

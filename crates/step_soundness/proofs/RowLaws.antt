@@ -1,55 +1,50 @@
 -- The rows of arithmetic, by the shape of what they read and write.
-use Rattle.std.proofs.Common.{◌≡◌, ◌⊎◌, inl, inr, ℕ, ◌+◌, ◌-◌, ◌*◌, ◌/◌, ◌%◌, ◌^◌, ◌<◌, ◌≤◌, ◌==◌, Bool, true, false, cond, List, [], ◌∷◌, ◌++◌, Option, Some, None, refl, sym, ◌∙◌, ap, subst, arith, lit<, pos}
-use Rattle.std.proofs.lemmas.Bool.{false≢true, true≢false, cond_both, eqb-true}
+use Rattle.std.proofs.Common.{◌≡◌, ◌⊎◌, inl, inr, ℕ, ◌%◌, ◌^◌, ◌<◌, ◌≤◌, true, false, cond, List, [], ◌∷◌, ◌++◌, Some, sym, subst, arith}
+use Rattle.std.proofs.lemmas.Bool.{cond_both}
 use Rattle.image_map.specs.declared.image.Image.{Image}
 use Rattle.ia32_types.specs.declared.Mem.{Mem}
 use Rattle.ia32_types.specs.declared.Op.{Op}
-use Rattle.ia32_types.specs.declared.Op.TheVariants as op
 use Rattle.ia32_types.specs.declared.Instr.{Instr}
 use Rattle.ia32_types.specs.declared.Operand.{Operand}
 use Rattle.ia32_types.specs.declared.Operand.TheVariants as operand
 use Rattle.ia32_types.specs.declared.Width.{Width}
 use Rattle.ia32_types.specs.declared.Width.TheVariants.{B8, W16, D32}
 use Rattle.ia32_types.specs.Forms.{width_limit}
-use Rattle.ia32_types.specs.Operands.{IsAddress, IsRegister, IsPlace, IsTarget, IsValue}
+use Rattle.ia32_types.specs.Operands.{IsAddress, IsPlace, IsTarget, IsValue}
 use Rattle.ia32_semantics.specs.declared.flags.Flags.{Flags}
 use Rattle.ia32_semantics.specs.declared.flags.FlagsOut.{FlagsOut}
-use Rattle.ia32_semantics.specs.Alu.{alu_value, alu_flags, kept_flags}
-use Rattle.ia32_semantics.specs.Effects.{Effect, Part, Whole, sets, changed, with_part}
+use Rattle.ia32_semantics.specs.Alu.{kept_flags}
 use Rattle.ia32_semantics.specs.Operands as machine
-use Rattle.ia32_semantics.specs.Operands.{bits, size}
+use Rattle.ia32_types.specs.Numbers.{size}
+use Rattle.ia32_semantics.specs.Operands.{bits}
 use Rattle.ia32_semantics.specs.Outcome.{Outcome, going}
-use Rattle.ia32_semantics.specs.Reading.{Reading, gives, ◌>>=◌}
-use Rattle.ia32_semantics.specs.Rows as rows
+use Rattle.ia32_semantics.specs.Reading.{◌>>=◌}
 use Rattle.ia32_semantics.specs.Rows.{next_place, goes_on}
-use Rattle.ia32_semantics.specs.State.{State, put}
+use Rattle.ia32_semantics.specs.State.{State}
 use Rattle.alocs.specs.Cells.{Division}
-use Rattle.vset.specs.Values.{Values, Top, CanonicalValues}
+use Rattle.vset.specs.Values.{Values, CanonicalValues}
 use Rattle.vset.specs.Members.{HasValue}
-use Rattle.vset.specs.World.{World}
 use Rattle.abs_alu.specs.Computed.{is_computed, computed, computed_flags}
-use Rattle.abs_alu.specs.Operands.{takes_second}
 use Rattle.abs_alu.specs.Results.{value, flags}
 use Rattle.abs_alu.specs.Runs.{AreAfter}
 use Rattle.abs_semantics.specs.States.{AbsState, HasCanonical}
-use Rattle.abs_semantics.specs.StandsFor.{world_of, flags_of}
+use Rattle.abs_semantics.specs.StandsFor.{world_of}
 use Rattle.abs_semantics.specs.Ownership.{IsKnown}
-use Rattle.abs_semantics.specs.Operands.{address, operand_value}
+use Rattle.abs_semantics.specs.Operands.{address}
 use Rattle.abs_steps.specs.declared.accesses.Access.{Access}
 use Rattle.abs_steps.specs.Accesses.{access, of_operand}
-use Rattle.abs_steps.specs.Effects.{AbsEffect, puts, turns, done}
+use Rattle.abs_steps.specs.Effects.{AbsEffect, turns}
 use Rattle.abs_steps.specs.Flags.{sets_of}
 use Rattle.abs_steps.specs.Results.{keeps_flags}
 use Rattle.abs_steps.specs.Rows.{view_of, flag_effects}
-use Rattle.abs_steps.specs.Views.{View, flag_sets, value_of, store_to}
+use Rattle.abs_steps.specs.Views.{value_of, store_to}
 use Rattle.step_soundness.specs.Accessed.{IsAccessed}
 use Rattle.step_soundness.specs.Terms.{IsOperand}
 use Rattle.step_soundness.proofs.ArithmeticLaws.{AreTaken, result_has, flags_have}
 use Rattle.step_soundness.proofs.EndLaws.{Goes, leads_follow, IsFlagged, flags_turned, flags_kept, goes_follow, goes_flagged}
 use Rattle.step_soundness.proofs.FlagLaws.{all_flagged, flags_by, are_after, flags_allowed}
-use Rattle.step_soundness.proofs.GivenLaws.{Gives, gives_bind, gives_this, gives_none, gives_more}
+use Rattle.step_soundness.proofs.GivenLaws.{Gives, gives_bind, gives_this, gives_more}
 use Rattle.step_soundness.proofs.ReadLaws.{IsRead, IsSelf, IsAsked, IsValueOf, value_gives}
-use Rattle.step_soundness.proofs.SinceLaws.{Since, since_puts}
 use Rattle.step_soundness.proofs.ValueForms.{operand_form, value_form}
 use Rattle.step_soundness.proofs.WriteLaws.{AreQuiet, Follows, store_follows}
 
@@ -92,7 +87,7 @@ spelt_number o is k e = subst IsOperand e is
 
 module _ (image : Image) (lane p : ℕ) (a : AbsState) (s : State) (d : Division) (known_ : IsKnown image lane a p s) (form : HasCanonical a) where
   abbrev pub Row : Instr → List Access → List Access → List AbsEffect → Outcome → Type 0
-  Row i reads writes given done_ = Goes image lane p a s d (next_place i) reads writes given done_
+  Row i reads writes given done_ = Goes image lane p a s d (next_place i) reads writes writes given done_
 
   -- -- What is read
 

@@ -1,6 +1,6 @@
 -- Changes one after another: what the state that came of some changes of registers and memory has kept, so that what was read before
 -- them is still so, and that each further change keeps it.
-use Rattle.std.proofs.Common.{◌≡◌, ℕ, ◌+◌, ◌*◌, ◌/◌, ◌%◌, ◌<◌, ◌≤◌, ◌^◌, ◌&&◌, Bool, true, false, cond, List, [], ◌∷◌, ◌++◌, Option, Some, None, refl, sym, ◌∙◌, ap, subst, arith, lit<}
+use Rattle.std.proofs.Common.{◌≡◌, ℕ, ◌<◌, ◌≤◌, ◌^◌, Bool, true, false, cond, [], Option, Some, None, refl, sym, ◌∙◌, ap, subst, arith}
 use Rattle.std.specs.List.{list_any}
 use Rattle.std.specs.Prelude.{nat_lt, ℤ}
 use Rattle.std.proofs.lemmas.Bool.{cond_both, ltb-true}
@@ -11,26 +11,26 @@ use Rattle.si_bits.specs.Concrete.{word}
 use Rattle.image_map.specs.declared.image.Image.{Image}
 use Rattle.ia32_types.specs.declared.Width.{Width}
 use Rattle.ia32_semantics.specs.CallModel.{IsLaidOut, AreActivations}
-use Rattle.ia32_semantics.specs.Effects.{Part, Whole, Word, Low, High, Effect, sets, stores, changed, all_changed, effect_fits, effects_fit, with_part, overwritten, is_open, effects_write}
-use Rattle.ia32_semantics.specs.Operands.{bits, size, number_bytes}
+use Rattle.ia32_semantics.specs.Effects.{Part, Whole, Word, Low, High, sets, stores, changed, effect_fits, with_part, overwritten}
+use Rattle.ia32_types.specs.Numbers.{size}
+use Rattle.ia32_semantics.specs.Operands.{bits, number_bytes}
 use Rattle.ia32_semantics.specs.State.{State, Bytes, put}
 use Rattle.ia32_semantics.proofs.EffectLemmas.{MapsAs, HasSizes, changed_sizes, overwritten_maps, overwritten_below, put_all}
 use Rattle.alocs.specs.Cells.{Division}
 use Rattle.vset.specs.Values.{Values, Top, CanonicalValues, only_number}
 use Rattle.vset.specs.Members.{HasValue}
-use Rattle.vset.specs.World.{World}
 use Rattle.abs_alu.specs.Operands.{known, word_within, single_word}
 use Rattle.abs_semantics.specs.States.{AbsState, HasCanonical}
 use Rattle.abs_semantics.specs.StandsFor.{StandsFor, world_of}
 use Rattle.abs_semantics.specs.Ownership.{IsKnown}
-use Rattle.abs_semantics.specs.Operands.{word_number, is_up_to, if_alone, known_with_part, with_part_value, fact_without}
+use Rattle.abs_semantics.specs.Operands.{is_up_to, if_alone, known_with_part, with_part_value, fact_without}
 use Rattle.abs_semantics.specs.Accesses.{write}
 use Rattle.abs_semantics.specs.Resolve.{resolve, Resolved}
 use Rattle.abs_semantics.specs.Stores.{with_memory}
 use Rattle.abs_semantics.specs.Touching.{touches_slot}
 use Rattle.abs_semantics.proofs.FormLemmas.{word_form, writes_keep_form}
 use Rattle.abs_semantics.proofs.SlotLemmas.{slots_are_left}
-use Rattle.abs_steps.specs.Effects.{AbsEffect, puts, saves, done, all_done}
+use Rattle.abs_steps.specs.Effects.{puts, saves, done}
 use Rattle.step_soundness.specs.Terms.{IsPart}
 use Rattle.step_soundness.proofs.CoreLaws.{puts_stands}
 use Rattle.step_soundness.proofs.StoreLaws.{saves_stand, saved_range, saved_bytes}

@@ -1,9 +1,8 @@
 -- The rows of the stack: push, pop and leave.
-use Rattle.std.proofs.Common.{◌≡◌, ◌⊎◌, inl, inr, ℕ, ◌+◌, ◌-◌, ◌*◌, ◌/◌, ◌%◌, ◌^◌, ◌<◌, ◌≤◌, ◌==◌, ◌&&◌, ◌||◌, Bool, true, false, cond, List, [], ◌∷◌, ◌++◌, Option, Some, None, refl, sym, ◌∙◌, ap, subst, arith, lit<}
-use Rattle.std.specs.Prelude.{is_some}
+use Rattle.std.proofs.Common.{◌≡◌, inl, inr, ℕ, ◌+◌, ◌-◌, ◌*◌, ◌%◌, ◌^◌, ◌<◌, ◌==◌, Bool, true, false, cond, List, [], ◌∷◌, Option, Some, None, refl, sym, ◌∙◌, ap, subst, arith, lit<}
 use Rattle.std.specs.Option.{option_map}
 use Rattle.std.specs.List.{list_any}
-use Rattle.std.proofs.lemmas.Bool.{false≢true, true≢false, cond_both, eqb-true, eq-eqb, and_parts}
+use Rattle.std.proofs.lemmas.Bool.{false≢true, true≢false, cond_both, eqb-true, eq-eqb, and_parts, or_left}
 use Rattle.std.proofs.lemmas.Option.{none-some, same_Some}
 use Rattle.image_map.specs.declared.image.Image.{Image}
 use Rattle.ia32_types.specs.declared.Mem.{Mem}
@@ -13,48 +12,48 @@ use Rattle.ia32_types.specs.declared.Instr.{Instr}
 use Rattle.ia32_types.specs.declared.Operand.{Operand}
 use Rattle.ia32_types.specs.declared.Operand.TheVariants as operand
 use Rattle.ia32_types.specs.declared.Width.{Width}
-use Rattle.ia32_types.specs.declared.Width.TheVariants.{B8, W16, D32}
-use Rattle.ia32_types.specs.Numbers.{reg_number, reg_of}
-use Rattle.ia32_types.specs.Operands.{IsAddress, IsIndex, IsTarget, IsValue, HasOne, HasNone}
+use Rattle.ia32_types.specs.declared.Width.TheVariants.{D32}
+use Rattle.ia32_types.specs.Numbers.{reg_number, reg_of, size}
+use Rattle.ia32_types.specs.Operands.{IsAddress, IsIndex, IsTarget, IsValue, HasOne}
 use Rattle.ia32_types.proofs.NumberLemmas.{reg_number_below, reg_of_number}
-use Rattle.ia32_semantics.specs.Effects.{Effect, Part, Whole, High, sets, stores, changed, all_changed, with_part, effect_fits, effects_fit, effects_write, effects_take, is_of_bytes}
+use Rattle.ia32_semantics.specs.Effects.{Effect, Whole, sets, stores, changed, with_part, effects_write}
 use Rattle.ia32_semantics.specs.Operands as machine
-use Rattle.ia32_semantics.specs.Operands.{bits, size, number_bytes, part_of, stored_number, is_esp, raised}
+use Rattle.ia32_semantics.specs.Operands.{bits, number_bytes, part_of, stored_number, is_esp, raised}
 use Rattle.ia32_semantics.specs.Outcome.{going}
-use Rattle.ia32_semantics.specs.Reading.{Reading, gives, faults, outcome, asks, ◌>>=◌}
+use Rattle.ia32_semantics.specs.Reading.{gives, faults, ◌>>=◌}
 use Rattle.ia32_semantics.specs.Rows as rows
 use Rattle.ia32_semantics.specs.Rows.{next_place, goes_on}
-use Rattle.ia32_semantics.specs.State.{State, AtByte, bytes_at, little_endian, put}
-use Rattle.ia32_semantics.proofs.EffectLemmas.{or_true, put_here, put_other}
+use Rattle.ia32_semantics.specs.State.{State, bytes_at, little_endian, put, AtByte}
+use Rattle.ia32_semantics.proofs.EffectLemmas.{put_here, put_other}
 use Rattle.alocs.specs.Cells.{Division}
-use Rattle.vset.specs.Values.{Values, Top, CanonicalValues}
+use Rattle.vset.specs.Values.{Values, CanonicalValues}
 use Rattle.vset.specs.Members.{HasValue}
 use Rattle.abs_semantics.specs.States.{AbsState, HasCanonical}
 use Rattle.abs_semantics.specs.StandsFor.{world_of}
-use Rattle.abs_semantics.specs.Ownership.{IsKnown, IsRange}
+use Rattle.abs_semantics.specs.Ownership.{IsKnown}
 use Rattle.abs_semantics.specs.Operands.{address, with_register}
 use Rattle.abs_semantics.specs.Resolve.{Resolved, resolve}
 use Rattle.abs_semantics.specs.Touching.{touches_slot}
 use Rattle.abs_steps.specs.declared.accesses.Access.{Access}
-use Rattle.abs_steps.specs.Accesses.{access, word_at, of_operand, word_pushed, word_popped}
-use Rattle.abs_steps.specs.Effects.{AbsEffect, puts, saves, done, all_done}
+use Rattle.abs_steps.specs.Accesses.{access, word_at, of_operand, word_pushed}
+use Rattle.abs_steps.specs.Effects.{puts, saves}
 use Rattle.abs_steps.specs.Rows as steps
 use Rattle.abs_steps.specs.Rows.{view_of, pushed_at, risen}
 use Rattle.abs_steps.specs.Views as views
 use Rattle.abs_steps.specs.Views.{value_of, stored_at, store, store_to}
-use Rattle.step_soundness.specs.Accessed.{IsNear, IsWithin, IsAccessed}
-use Rattle.step_soundness.specs.Terms.{IsOperand, register_or_zero, address_in}
-use Rattle.step_soundness.proofs.EndLaws.{Goes, Leads, goes_follow, goes_leads}
+use Rattle.step_soundness.specs.Accessed.{IsNear, IsWithin, IsAccessed, IsFilledBy, AreFilled}
+use Rattle.step_soundness.specs.Terms.{register_or_zero, address_in}
+use Rattle.step_soundness.proofs.EndLaws.{Leads, goes_follow, goes_leads}
 use Rattle.step_soundness.proofs.GivenLaws.{Gives, gives_bind, gives_this, gives_none, gives_register, gives_more}
 use Rattle.step_soundness.proofs.OperandLaws.{number_outcome, number_below, registers_hold, stored_has}
 use Rattle.step_soundness.proofs.OperationLaws.{with_operands}
 use Rattle.step_soundness.proofs.PointerLaws.{pushed_has, risen_has, address_has, address_form}
-use Rattle.step_soundness.proofs.ReadLaws.{IsRead, cut_has, stored_near, address_gives}
-use Rattle.step_soundness.proofs.RowLaws.{Row, Has, read_gives, value_canonical, spelt_address, spelt_target, spelt_value}
+use Rattle.step_soundness.proofs.ReadLaws.{cut_has, stored_near, address_gives}
+use Rattle.step_soundness.proofs.RowLaws.{Row, Has, read_gives, value_canonical, spelt_address, spelt_value}
 use Rattle.step_soundness.proofs.SinceLaws.{Since, since_itself, since_later}
 use Rattle.step_soundness.proofs.StoreLaws.{some_size}
 use Rattle.step_soundness.proofs.ValueForms.{pushed_form, risen_form, stored_form}
-use Rattle.step_soundness.proofs.WriteLaws.{IsQuiet, AreQuiet, Follows, sets_since, sets_follow, high_since, saves_since, saves_near, saves_follow}
+use Rattle.step_soundness.proofs.WriteLaws.{IsQuiet, AreQuiet, Follows, sets_since, sets_follow, saves_since, saves_near, saves_filled, saves_follow, or_end}
 
 -- what is accessed in a state with other registers is accessed in the state
 near_back : (lane : ℕ) (s : State) (registers : ℕ → ℕ) (v : Values) (len byte : ℕ) → IsNear lane (record s { registers = registers }) v len byte → IsNear lane s v len byte
@@ -76,6 +75,15 @@ accessed_back lane s registers (x ∷ xs) byte (inl h) = inl (by x.len h)
     by None h = tt
     by (Some len) h = near_back lane s registers x.addr len byte h
 accessed_back lane s registers (x ∷ xs) byte (inr h) = inr (accessed_back lane s registers xs byte h)
+
+filled_back : (lane : ℕ) (s : State) (registers : ℕ → ℕ) (test : ℕ → Bool) (xs : List Access) → AreFilled lane (record s { registers = registers }) test xs → AreFilled lane s test xs
+filled_back lane s registers test [] h = tt
+filled_back lane s registers test (x ∷ xs) h = (by x.len h.0, filled_back lane s registers test xs h.1)
+  where
+    by : (l : Option ℕ) → IsFilledBy lane (record s { registers = registers }) test x.addr l → IsFilledBy lane s test x.addr l
+    by None h = tt
+    by (Some len) h =
+        record { at = h.at; range = record { word = h.range.word; member = h.range.member; some = h.range.some; within = h.range.within; mapped = h.range.mapped }; filled = h.filled }
 
 -- accesses stay quiet where places are resolved alike
 pub quiet_since : (a b : AbsState) (p : ℕ) → ((v : Values) (len : ℕ) → resolve b p v len ≡ resolve a p v len) → (xs : List Access) → AreQuiet a p xs → AreQuiet b p xs
@@ -128,11 +136,12 @@ module _ (image : Image) (lane p : ℕ) (a : AbsState) (s : State) (d : Division
             (sets_since image lane p a s d known_ form D32 4 at v (lit< tt) fv (subst (λ k. HasValue lane (world_of s) k v) same held) b t h) (and_parts _ _ fits).0;
         written = λ byte fits e. inl (saves_near image lane p a s d known_ form D32 at n v w fv fw below held has quiet byte (and_parts _ _ fits).0 (or_end _ e));
         taken = λ byte. refl;
+        filled = λ fits. (
+          saves_filled image lane p a s d known_ form D32 at n v w fv fw below held has quiet (and_parts _ _ fits).0
+              (λ byte. effects_write (rows.push_effects (s.registers 4) n) (AtByte byte)) (λ byte e. or_left _ _ e),
+          tt,
+        );
       }
-    where
-      or_end : (b : Bool) → (b || false) ≡ true → b ≡ true
-      or_end true e = refl
-      or_end false e = e
 
   pub pushed_goes : (i : Instr) (dst src : Option Operand) (imm : Option ℕ) → i.width ≡ D32 → HasOne (IsValue D32) dst src imm → AreQuiet a p (word_pushed a)
       → Gives s (IsAccessed lane s (of_operand false a i.width dst))
@@ -178,18 +187,19 @@ module _ (image : Image) (lane p : ℕ) (a : AbsState) (s : State) (d : Division
             (sets_since image lane p a s d known_ form D32 4 ((bp + 4) % 4294967296) (risen (a.registers 5)) (lit< tt) (risen_form (a.registers 5) (form.registers 5))
             (subst (λ k. HasValue lane (world_of s) k (risen (a.registers 5))) above (risen_has lane (world_of s) (a.registers 5) (form.registers 5) bp held)) a s (since_itself image lane p a s known_ form));
         written = λ byte fits f. absurd (false≢true f);
+        filled = λ fits. tt;
       }))))
 
   -- -- Pop
 
   -- the state after ESP has risen
-  abbrev raised_abs : AbsState
+  abbrev pub raised_abs : AbsState
   raised_abs = with_register a Whole 4 (risen (a.registers 4))
 
-  abbrev raised_state : State
+  abbrev pub raised_state : State
   raised_state = changed (sets Whole 4 ((s.registers 4 + 4) % 4294967296)) s
 
-  raised_since : Since image lane p a s raised_abs raised_state
+  pub raised_since : Since image lane p a s raised_abs raised_state
   raised_since =
       let above : (s.registers 4 + 4) % 4294967296 ≡ (s.registers 4 + 4) % 4294967296 % 4294967296 = omega arith in
       sets_since image lane p a s d known_ form D32 4 ((s.registers 4 + 4) % 4294967296) (risen (a.registers 4)) (lit< tt) (risen_form (a.registers 4) (form.registers 4))
@@ -271,7 +281,7 @@ module _ (image : Image) (lane p : ℕ) (a : AbsState) (s : State) (d : Division
     popped_follows : (x : Operand) → IsTarget D32 x → AreQuiet raised_abs p (of_operand true raised_abs D32 (Some x)) → Gives s (λ byte. ⊥) (After x) (machine.store_to D32 (raised (Some x)) n)
     unfolding machine.store_to machine.store store
     popped_follows (operand.Reg r) target quiet =
-        gives_this s (λ byte. ⊥) _ (sets Whole (reg_number r) n ∷ []) (sets_follow image lane p raised_abs raised_state d raised_since.known raised_since.form [] D32 (reg_number r) n w (reg_number_below r) fw has)
+        gives_this s (λ byte. ⊥) _ (sets Whole (reg_number r) n ∷ []) (sets_follow image lane p raised_abs raised_state d raised_since.known raised_since.form D32 (reg_number r) n w (reg_number_below r) fw has)
     popped_follows (operand.High r) target quiet = absurd target
     popped_follows (operand.Imm k) target quiet = absurd target
     popped_follows (operand.Mem m) target quiet =
@@ -287,6 +297,7 @@ module _ (image : Image) (lane p : ℕ) (a : AbsState) (s : State) (d : Division
             since_later image lane p a raised_abs _ s raised_state _ raised_since
             (f.since raised_abs raised_state (since_itself image lane p raised_abs raised_state raised_since.known raised_since.form) fits);
         written = λ byte fits e. accessed_back lane s raised_state.registers (of_operand true raised_abs D32 (Some x)) byte (f.written byte fits e);
+        filled = λ fits. filled_back lane s raised_state.registers (λ byte. effects_write es (AtByte byte)) (of_operand true raised_abs D32 (Some x)) (f.filled fits);
       }
 
   abbrev popped_instr : Instr → Width → Option Operand → Option Operand → Option ℕ → Instr

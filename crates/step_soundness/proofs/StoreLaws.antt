@@ -1,12 +1,12 @@
 -- A value that is stored: the abstract state after the write stands for the machine's state after it.
-use Rattle.std.proofs.Common.{◌≡◌, ℕ, zero, suc, ◌+◌, ◌*◌, ◌/◌, ◌%◌, ◌^◌, ◌<◌, ◌≤◌, ◌==◌, ◌||◌, ◌&&◌, ◌⊎◌, inl, inr, Bool, true, false, cond, List, [], ◌∷◌, Option, Some, None, refl, sym, ◌∙◌, ap, subst, arith, lit<}
-use Rattle.std.specs.Prelude.{is_some}
-use Rattle.std.proofs.lemmas.Bool.{eqb-true, eq-eqb, and_parts, true≢false}
+use Rattle.std.proofs.Common.{◌≡◌, ℕ, zero, suc, ◌+◌, ◌*◌, ◌/◌, ◌%◌, ◌^◌, ◌<◌, ◌≤◌, ◌==◌, ◌||◌, ◌⊎◌, inl, inr, Bool, true, false, cond, List, Some, refl, sym, ◌∙◌, ap, subst, arith}
+use Rattle.std.proofs.lemmas.Bool.{eqb-true, eq-eqb, and_parts}
 use Rattle.image_map.specs.declared.image.Image.{Image}
 use Rattle.ia32_types.specs.declared.Width.{Width}
 use Rattle.ia32_types.specs.declared.Width.TheVariants.{B8, W16, D32}
-use Rattle.ia32_semantics.specs.Effects.{Effect, stores, changed, overwritten, is_of_bytes, all_of_bytes, is_open, effect_fits}
-use Rattle.ia32_semantics.specs.Operands.{bits, size, number_bytes}
+use Rattle.ia32_semantics.specs.Effects.{stores, changed, overwritten, is_of_bytes, all_of_bytes, is_open, effect_fits}
+use Rattle.ia32_types.specs.Numbers.{size}
+use Rattle.ia32_semantics.specs.Operands.{bits, number_bytes}
 use Rattle.ia32_semantics.specs.State.{State, Bytes, bytes_at, joined, little_endian, put}
 use Rattle.ia32_semantics.proofs.EffectLemmas.{overwritten_other}
 use Rattle.alocs.specs.Cells.{Division}
@@ -66,7 +66,7 @@ number_back (suc k) v lt =
     ap (λ n. v % 256 + 256 * n) rest ∙ (let e : v % 256 + 256 * (v / 256) ≡ v = omega arith in e)
 
 -- each of them passes a test
-each_passes : (test : ℕ → Bool) (k at v : ℕ) → all_of_bytes test at (number_bytes k v) ≡ true → (j : ℕ) → j < k → test (at + j) ≡ true
+pub each_passes : (test : ℕ → Bool) (k at v : ℕ) → all_of_bytes test at (number_bytes k v) ≡ true → (j : ℕ) → j < k → test (at + j) ≡ true
 each_passes test zero at v h j lt = absurd (omega (arith, lt))
 each_passes test (suc k) at v h zero lt =
     let same : at + 0 ≡ at = omega arith in

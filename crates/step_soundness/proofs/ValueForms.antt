@@ -1,11 +1,9 @@
 -- The values that rows make have the one form of their intervals.
-use Rattle.std.proofs.Common.{◌≡◌, inl, inr, ℕ, ◌+◌, ◌-◌, ◌*◌, ◌/◌, ◌%◌, ◌^◌, ◌<◌, ◌≤◌, ◌==◌, ◌&&◌, Bool, true, false, cond, [], ◌∷◌, Option, Some, None, refl, sym, ◌∙◌, ap, subst, arith, lit<}
+use Rattle.std.proofs.Common.{◌≡◌, ℕ, ◌+◌, ◌-◌, ◌/◌, ◌%◌, ◌^◌, ◌<◌, ◌≤◌, ◌&&◌, Bool, true, false, cond, Option, Some, None, refl, subst, arith, lit<}
 use Rattle.std.proofs.lemmas.Int.{ints}
 use Rattle.std.proofs.lemmas.Bool.{cond_both, and_parts}
-use Rattle.std.specs.Prelude.{ℤ, pos, negsuc, ◌≤ℤ◌, FitsSigned, int_le, int_lt}
-use Rattle.std.specs.Int.{w32}
+use Rattle.std.specs.Prelude.{pos, negsuc, int_le, int_lt}
 use Rattle.std.proofs.lemmas.Option.{same_Some}
-use Rattle.image_map.specs.declared.image.Image.{Image}
 use Rattle.ia32_types.specs.declared.Op.{Op}
 use Rattle.ia32_types.specs.declared.Op.TheVariants as op
 use Rattle.ia32_types.specs.declared.Flag.TheVariants.{Cf}
@@ -14,45 +12,41 @@ use Rattle.ia32_types.specs.declared.Operand.{Operand}
 use Rattle.ia32_types.specs.declared.Operand.TheVariants as operand
 use Rattle.ia32_types.specs.declared.Width.{Width}
 use Rattle.ia32_types.specs.declared.Width.TheVariants.{B8, W16, D32}
-use Rattle.ia32_types.specs.Numbers.{reg_number}
+use Rattle.ia32_types.specs.Numbers.{reg_number, size}
 use Rattle.ia32_semantics.specs.Alu.{sign}
-use Rattle.ia32_semantics.specs.Operands.{bits, size, low_part}
+use Rattle.ia32_semantics.specs.Operands.{bits, low_part}
 use Rattle.ia32_semantics.specs.Product.{extended}
 use Rattle.ia32_semantics.specs.Shift.{masked}
 use Rattle.alocs.specs.Cells.{Division}
 use Rattle.strided.specs.Interval.{Interval, IsCanonical, one}
 use Rattle.strided.specs.Operations.{spaced}
-use Rattle.strided.proofs.MemberLemmas.{one_canonical, int_le_true, full_canonical}
+use Rattle.strided.proofs.MemberLemmas.{one_canonical, int_le_true}
 use Rattle.strided.proofs.SpacedLemmas.{spaced_canonical}
 use Rattle.si_bits.specs.Concrete as concrete
 use Rattle.si_bits.specs.Operations.{up_to, mul}
 use Rattle.si_bits.proofs.SignLemmas.{number_fits, fits_between}
 use Rattle.vset.specs.declared.facts.AbsFlags.{AbsFlags}
-use Rattle.vset.specs.Operations.{add, sub, join, part}
-use Rattle.vset.specs.Values.{Values, Top, Parts, CanonicalValues, only_number}
-use Rattle.image_map.specs.declared.region.RegionId.TheVariants.{Global}
+use Rattle.vset.specs.Operations.{add, sub, join}
+use Rattle.vset.specs.Values.{Values, Top, CanonicalValues, only_number}
 use Rattle.abs_alu.specs.Computed.{is_computed, computed}
-use Rattle.abs_alu.specs.Operands.{known, takes_second, takes_carry, known_carry, with_second, operands}
+use Rattle.abs_alu.specs.Operands.{known, takes_second, with_second, operands}
 use Rattle.abs_alu.specs.Results.{computed_or, wide, value}
 use Rattle.abs_alu.specs.Words.{numbers, number, words, by_carry, with_carries, interval_of, of_intervals, of_numbers, shifted_by, shifted_interval, shifted}
-use Rattle.abs_alu.proofs.CanonicalLemmas.{settled_canonical, number_canonical, only_canonical, add_values_canonical, sub_values_canonical}
+use Rattle.abs_alu.proofs.CanonicalLemmas.{number_canonical, only_canonical, add_values_canonical, sub_values_canonical, numbers_canonical}
 use Rattle.abs_alu.proofs.ComputedLemmas.{computed_below}
 use Rattle.abs_alu.proofs.OpLemmas.{each_op}
 use Rattle.abs_semantics.specs.States.{AbsState, HasCanonical}
 use Rattle.abs_semantics.specs.Accesses.{read}
-use Rattle.abs_semantics.specs.Operands.{word_number, any_of, numbers_or_any, read_as, low_numbers, low_of, second_byte, memory_value, operand_value, is_up_to}
+use Rattle.abs_semantics.specs.Operands.{any_of, numbers_or_any, read_as, low_numbers, low_of, second_byte, operand_value, is_up_to}
 use Rattle.abs_semantics.proofs.FormLemmas.{word_form, reads_have_form}
 use Rattle.abs_semantics.proofs.ReadLemmas.{join_form}
 use Rattle.abs_steps.specs.Flags.{MayBe, may_hold, decided}
-use Rattle.abs_steps.specs.Results.{extended_within, sign_extended, extended_or_any, widened, either_sign, sign_of_numbers, sign_of, truth_of, chosen_by}
+use Rattle.abs_steps.specs.Results.{sign_extended, extended_or_any, widened, either_sign, sign_of_numbers, sign_of, truth_of, chosen_by}
 use Rattle.abs_steps.specs.Rows.{pushed_at, risen}
 use Rattle.abs_steps.specs.Strings.{stepped, grown}
 use Rattle.step_soundness.proofs.ArithmeticLaws.{width_of}
 use Rattle.step_soundness.proofs.IntervalForms.{up_to_form, shl_form, shr_form, sar_form, low_8_form, low_16_form, extend_8_form, extend_16_form, mul_form, and_form, or_form, xor_form}
 use Rattle.step_soundness.proofs.SinceLaws.{known_below}
-
-pub numbers_form : (x : Interval) → IsCanonical x → CanonicalValues (numbers x)
-numbers_form x form = settled_canonical (part Global x ∷ []) (form, tt)
 
 pub small_form : (k : ℕ) → k < 2147483648 → CanonicalValues (number (pos k))
 small_form k lt = number_canonical (pos k) (fits_between (pos k) (omega (arith, ints)) (omega (arith, ints)))
@@ -61,8 +55,8 @@ computed_form : (n : ℕ) → n < 4294967296 → CanonicalValues (number (concre
 computed_form n lt = number_canonical (concrete.number n) (number_fits n lt)
 
 pub any_form : (width : Width) → CanonicalValues (any_of width)
-any_form B8 = numbers_form (up_to 255) (up_to_form 255 (lit< tt))
-any_form W16 = numbers_form (up_to 65535) (up_to_form 65535 (lit< tt))
+any_form B8 = numbers_canonical (up_to 255) (up_to_form 255 (lit< tt))
+any_form W16 = numbers_canonical (up_to 65535) (up_to_form 65535 (lit< tt))
 any_form D32 = tt
 
 -- -- Operands
@@ -72,12 +66,12 @@ low_numbers_form v form B8 = by (only_number v) refl
   where
     by : (o : Option Interval) → only_number v ≡ o → CanonicalValues (low_numbers B8 o)
     by None e = any_form B8
-    by (Some x) e = numbers_form _ (low_8_form x (only_canonical v x form e))
+    by (Some x) e = numbers_canonical _ (low_8_form x (only_canonical v x form e))
 low_numbers_form v form W16 = by (only_number v) refl
   where
     by : (o : Option Interval) → only_number v ≡ o → CanonicalValues (low_numbers W16 o)
     by None e = any_form W16
-    by (Some x) e = numbers_form _ (low_16_form x (only_canonical v x form e))
+    by (Some x) e = numbers_canonical _ (low_16_form x (only_canonical v x form e))
 low_numbers_form v form D32 = form
 
 second_form : (o : Option ℕ) → CanonicalValues (second_byte o)
@@ -89,7 +83,7 @@ or_any_form width v form = by (only_number v) refl
   where
     by : (o : Option Interval) → only_number v ≡ o → CanonicalValues (numbers_or_any width o)
     by None e = any_form width
-    by (Some x) e = numbers_form x (only_canonical v x form e)
+    by (Some x) e = numbers_canonical x (only_canonical v x form e)
 
 pub read_form : (width : Width) (v : Values) → CanonicalValues v → CanonicalValues (read_as width v)
 read_form B8 v form = or_any_form B8 v form
@@ -154,7 +148,7 @@ module _ (width : Width) (a b : Values) (fa : CanonicalValues a) (fb : Canonical
       by : (p q : Option Interval) → only_number a ≡ p → only_number b ≡ q → CanonicalValues (of_intervals o p q)
       by None q e g = tt
       by (Some x) None e g = tt
-      by (Some x) (Some y) e g = numbers_form (interval_of o x y) (form x y (only_canonical a x fa e) (only_canonical b y fb g))
+      by (Some x) (Some y) e g = numbers_canonical (interval_of o x y) (form x y (only_canonical a x fa e) (only_canonical b y fb g))
 
   shifts_form : (o : Op) → ((x : Interval) (n : ℕ) → n < 32 → IsCanonical x → IsCanonical (shifted_by o x n)) → CanonicalValues (shifted o a b)
   unfolding shifted
@@ -163,7 +157,7 @@ module _ (width : Width) (a b : Values) (fa : CanonicalValues a) (fb : Canonical
       by : (p : Option Interval) (c : Option ℕ) → only_number a ≡ p → CanonicalValues (shifted_interval o p c)
       by None c e = tt
       by (Some x) None e = tt
-      by (Some x) (Some n) e = numbers_form (shifted_by o x (masked n)) (form x (masked n) (omega arith) (only_canonical a x fa e))
+      by (Some x) (Some n) e = numbers_canonical (shifted_by o x (masked n)) (form x (masked n) (omega arith) (only_canonical a x fa e))
 
   carries_form : (x y : Values) → CanonicalValues x → CanonicalValues y → (z o : Bool) → CanonicalValues (by_carry z o x y)
   carries_form x y fx fy true true = join_form x y fx fy
@@ -225,11 +219,11 @@ stepped_form may z v few form =
 pub grown_form : (z : ℕ) (c : Interval) (v : Values) → z < 2147483648 → IsCanonical c → CanonicalValues v → CanonicalValues (grown z c v)
 grown_form z c v few fc form =
     add_values_canonical v (numbers (mul c (one (pos z)))) form
-    (numbers_form (mul c (one (pos z))) (mul_form c (one (pos z)) fc (one_canonical (pos z) (fits_between (pos z) (omega (arith, ints)) (omega (arith, ints))))))
+    (numbers_canonical (mul c (one (pos z))) (mul_form c (one (pos z)) fc (one_canonical (pos z) (fits_between (pos z) (omega (arith, ints)) (omega (arith, ints))))))
 
 pub truth_form : (c : ℕ) (may : MayBe) → CanonicalValues (truth_of c may)
 unfolding truth_of
-truth_form c may = decided_form (may_hold c may true) (may_hold c may false) _ _ _ (small_form 1 (lit< tt)) (small_form 0 (lit< tt)) (numbers_form (up_to 1) (up_to_form 1 (lit< tt)))
+truth_form c may = decided_form (may_hold c may true) (may_hold c may false) _ _ _ (small_form 1 (lit< tt)) (small_form 0 (lit< tt)) (numbers_canonical (up_to 1) (up_to_form 1 (lit< tt)))
 
 pub choice_form : (c : ℕ) (may : MayBe) (new old : Values) → CanonicalValues new → CanonicalValues old → CanonicalValues (chosen_by c may new old)
 unfolding chosen_by
@@ -240,7 +234,7 @@ unfolding sign_of
 sign_form v = by (only_number v)
   where
     either : CanonicalValues either_sign
-    either = numbers_form (spaced 1 (negsuc 0) (pos 0)) (spaced_canonical 1 (negsuc 0) (pos 0) (omega (arith, ints)) (omega (arith, ints)) (omega (arith, ints)))
+    either = numbers_canonical (spaced 1 (negsuc 0) (pos 0)) (spaced_canonical 1 (negsuc 0) (pos 0) (omega (arith, ints)) (omega (arith, ints)) (omega (arith, ints)))
 
     by : (o : Option Interval) → CanonicalValues (sign_of_numbers o)
     by None = either
@@ -255,14 +249,14 @@ within_form v form B8 = by (only_number v) refl
     by None e = tt
     by (Some x) e =
         cond_both (is_up_to 255 (Some x)) _ Top CanonicalValues
-        (λ yes. numbers_form _ (extend_8_form x (only_canonical v x form e) (int_le_true x.hi (pos 255) (and_parts (int_le (pos 0) x.lo) (int_le x.hi (pos 255)) yes).1))) (λ _. tt)
+        (λ yes. numbers_canonical _ (extend_8_form x (only_canonical v x form e) (int_le_true x.hi (pos 255) (and_parts (int_le (pos 0) x.lo) (int_le x.hi (pos 255)) yes).1))) (λ _. tt)
 within_form v form W16 = by (only_number v) refl
   where
     by : (o : Option Interval) → only_number v ≡ o → CanonicalValues (sign_extended W16 o)
     by None e = tt
     by (Some x) e =
         cond_both (is_up_to 65535 (Some x)) _ Top CanonicalValues
-        (λ yes. numbers_form _ (extend_16_form x (only_canonical v x form e) (int_le_true x.hi (pos 65535) (and_parts (int_le (pos 0) x.lo) (int_le x.hi (pos 65535)) yes).1))) (λ _. tt)
+        (λ yes. numbers_canonical _ (extend_16_form x (only_canonical v x form e) (int_le_true x.hi (pos 65535) (and_parts (int_le (pos 0) x.lo) (int_le x.hi (pos 65535)) yes).1))) (λ _. tt)
 within_form v form D32 = by (only_number v)
   where
     by : (o : Option Interval) → CanonicalValues (sign_extended D32 o)

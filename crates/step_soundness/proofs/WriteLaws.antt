@@ -1,19 +1,19 @@
 -- What a row stores keeps what was known before, and the bytes that it writes are accessed.
-use Rattle.std.proofs.Common.{◌≡◌, ◌⊎◌, inl, inr, ℕ, zero, suc, ◌+◌, ◌-◌, ◌*◌, ◌/◌, ◌%◌, ◌^◌, ◌<◌, ◌≤◌, ◌==◌, ◌||◌, ◌&&◌, Bool, true, false, cond, List, [], ◌∷◌, ◌++◌, Option, Some, None, refl, sym, ◌∙◌, ap, subst, arith, lit<, eqb-true, eq-eqb}
+use Rattle.std.proofs.Common.{◌≡◌, inl, ℕ, zero, suc, ◌+◌, ◌-◌, ◌/◌, ◌%◌, ◌^◌, ◌<◌, ◌≤◌, ◌==◌, ◌||◌, Bool, true, false, cond, List, [], ◌∷◌, Option, Some, None, refl, sym, subst, arith, eqb-true, eq-eqb}
 use Rattle.std.specs.List.{list_any}
-use Rattle.std.proofs.lemmas.Bool.{false≢true, and_parts}
+use Rattle.std.proofs.lemmas.Bool.{false≢true, and_parts, or_left, or_right}
 use Rattle.image_map.specs.declared.image.Image.{Image}
 use Rattle.ia32_types.specs.declared.Mem.{Mem}
 use Rattle.ia32_types.specs.declared.Width.{Width}
 use Rattle.ia32_types.specs.declared.Width.TheVariants.{B8, W16, D32}
 use Rattle.ia32_types.specs.declared.Operand.{Operand}
 use Rattle.ia32_types.specs.declared.Operand.TheVariants as operand
-use Rattle.ia32_types.specs.Numbers.{reg_number}
+use Rattle.ia32_types.specs.Numbers.{reg_number, size}
 use Rattle.ia32_types.specs.Operands.{IsTarget}
 use Rattle.ia32_types.proofs.NumberLemmas.{reg_number_below}
 use Rattle.ia32_semantics.specs.Effects.{Part, Whole, Word, Low, High, Effect, sets, stores, changed, all_changed, effect_fits, effects_fit, effects_write, effects_take, is_of_bytes, with_part}
-use Rattle.ia32_semantics.specs.Operands.{bits, size, part_of, number_bytes, store as store_reading, address as address_reading}
-use Rattle.ia32_semantics.specs.Reading.{Reading, gives, faults, outcome, ◌>>=◌}
+use Rattle.ia32_semantics.specs.Operands.{bits, part_of, number_bytes, store as store_reading, address as address_reading}
+use Rattle.ia32_semantics.specs.Reading.{gives, faults, ◌>>=◌}
 use Rattle.ia32_semantics.specs.State.{State, AtByte, put}
 use Rattle.ia32_semantics.proofs.EffectLemmas.{or_true}
 use Rattle.alocs.specs.Cells.{Division}
@@ -21,7 +21,7 @@ use Rattle.vset.specs.Values.{Values, CanonicalValues}
 use Rattle.vset.specs.Members.{HasValue}
 use Rattle.abs_semantics.specs.States.{AbsState, HasCanonical}
 use Rattle.abs_semantics.specs.StandsFor.{world_of}
-use Rattle.abs_semantics.specs.Ownership.{IsKnown, IsRange}
+use Rattle.abs_semantics.specs.Ownership.{IsKnown}
 use Rattle.abs_semantics.specs.Operands.{address}
 use Rattle.abs_semantics.specs.Resolve.{resolve}
 use Rattle.abs_semantics.specs.Touching.{touches_slot}
@@ -30,14 +30,15 @@ use Rattle.abs_steps.specs.Accesses.{access, of_operand}
 use Rattle.abs_steps.specs.Effects.{AbsEffect, puts, saves, done, all_done}
 use Rattle.abs_steps.specs.Rows.{view_of}
 use Rattle.abs_steps.specs.Views.{store}
-use Rattle.step_soundness.specs.Accessed.{IsNear, IsAccessed}
-use Rattle.step_soundness.specs.Terms.{IsPart, IsOperand, address_in}
+use Rattle.step_soundness.specs.Accessed.{IsNear, IsAccessed, IsFilled, AreFilled}
+use Rattle.step_soundness.specs.Terms.{IsOperand, address_in}
 use Rattle.step_soundness.proofs.GivenLaws.{Gives, gives_bind, gives_this, gives_none}
 use Rattle.step_soundness.proofs.OperandLaws.{registers_hold}
 use Rattle.step_soundness.proofs.PointerLaws.{address_has, address_form}
 use Rattle.step_soundness.proofs.ReadLaws.{address_gives}
 use Rattle.step_soundness.proofs.SinceLaws.{Since, since_puts, since_saves}
-use Rattle.step_soundness.proofs.StoreLaws.{saved_range, outside, some_size}
+use Rattle.step_soundness.proofs.StoreLaws.{saved_range}
+use Rattle.step_soundness.proofs.WidthLaws.{fits_part, fits_word}
 
 -- no warning stands at the accesses that write
 abbrev pub IsQuiet : AbsState → ℕ → Values → Option ℕ → Type 0
@@ -53,6 +54,12 @@ pub record Follows (image : Image) (lane p : ℕ) (a : AbsState) (s : State) (d 
   pub since : (b : AbsState) (t : State) → Since image lane p a s b t → effects_fit image t.memory es ≡ true → Since image lane p a s (all_done d image p given b) (all_changed es t)
   pub written : (byte : ℕ) → effects_fit image s.memory es ≡ true → effects_write es (AtByte byte) ≡ true → IsAccessed lane s xs byte
   pub taken : (byte : ℕ) → effects_take es (AtByte byte) ≡ false
+  pub filled : effects_fit image s.memory es ≡ true → AreFilled lane s (λ byte. effects_write es (AtByte byte)) xs
+
+-- one of two tests alone may pass
+pub or_end : (b : Bool) → (b || false) ≡ true → b ≡ true
+or_end true e = refl
+or_end false e = e
 
 -- -- Numbers cut to their widths
 
@@ -84,23 +91,21 @@ cut_below B8 n = omega arith
 cut_below W16 n = omega arith
 cut_below D32 n = omega arith
 
-pub cut_fits : (width : Width) (n : ℕ) → n < 2 ^ bits width → IsPart (part_of width) n
-cut_fits B8 n lt = lt
-cut_fits W16 n lt = lt
-cut_fits D32 n lt = lt
-
-pub cut_word : (width : Width) (n : ℕ) → n < 2 ^ bits width → n < 4294967296
-cut_word B8 n lt = omega (arith, lt)
-cut_word W16 n lt = omega (arith, lt)
-cut_word D32 n lt = lt
-
 -- a byte among those of a number that is stored
-stored_within : (k at v y : ℕ) → is_of_bytes at (number_bytes k v) y ≡ true → (at ≤ y) × (y < at + k)
+pub stored_within : (k at v y : ℕ) → is_of_bytes at (number_bytes k v) y ≡ true → (at ≤ y) × (y < at + k)
 stored_within zero at v y e = absurd (false≢true e)
 stored_within (suc k) at v y e =
     or_true (at == y) _ e
     (λ f. let same : at ≡ y = eqb-true at y f in (omega (arith, same), omega (arith, same)))
     (λ f. let rest : (at + 1 ≤ y) × (y < at + 1 + k) = stored_within k (at + 1) (v / 256) y f in (omega (arith, rest), omega (arith, rest)))
+
+-- each byte of a number that is stored is among those
+pub number_within : (k at v j : ℕ) → j < k → is_of_bytes at (number_bytes k v) (at + j) ≡ true
+number_within zero at v j lt = absurd (omega (arith, lt))
+number_within (suc k) at v zero lt = or_left (at == at + 0) _ (eq-eqb at (at + 0) (omega arith))
+number_within (suc k) at v (suc j) lt =
+    or_right (at == at + suc j) _
+    (subst (λ x. is_of_bytes (at + 1) (number_bytes k (v / 256)) x ≡ true) (let e : at + 1 + j ≡ at + suc j = omega arith in e) (number_within k (at + 1) (v / 256) j (omega (arith, lt))))
 
 module _ (image : Image) (lane p : ℕ) (a : AbsState) (s : State) (d : Division) (known_ : IsKnown image lane a p s) (form : HasCanonical a) where
   -- -- A register
@@ -110,7 +115,7 @@ module _ (image : Image) (lane p : ℕ) (a : AbsState) (s : State) (d : Division
       → (b : AbsState) (t : State) → Since image lane p a s b t → Since image lane p a s (done d image p (puts (part_of width) r w) b) (changed (sets (part_of width) r n) t)
   sets_since width r n w few fw has b t h =
       subst (λ x. Since image lane p a s (done d image p (puts (part_of width) r w) b) (record t { registers = put t.registers r x })) (cut_part width (t.registers r) n)
-      (since_puts image lane p a s b t d h (part_of width) r (n % 2 ^ bits width) w few (cut_fits width (n % 2 ^ bits width) (cut_below width n)) (cut_word width (n % 2 ^ bits width) (cut_below width n)) fw has)
+      (since_puts image lane p a s b t d h (part_of width) r (n % 2 ^ bits width) w few (fits_part width (n % 2 ^ bits width) (cut_below width n)) (fits_word width (n % 2 ^ bits width) (cut_below width n)) fw has)
 
   pub high_since : (r n : ℕ) (w : Values) → r < 8 → CanonicalValues w → HasValue lane (world_of s) (n % 256) w
       → (b : AbsState) (t : State) → Since image lane p a s b t → Since image lane p a s (done d image p (puts High r w) b) (changed (sets High r n) t)
@@ -120,10 +125,10 @@ module _ (image : Image) (lane p : ℕ) (a : AbsState) (s : State) (d : Division
       (since_puts image lane p a s b t d h High r (n % 256) w few below (omega (arith, below)) fw has)
 
   -- one register
-  pub sets_follow : (xs : List Access) (width : Width) (r n : ℕ) (w : Values) → r < 8 → CanonicalValues w → HasValue lane (world_of s) (n % 2 ^ bits width) w
-      → Follows image lane p a s d xs (puts (part_of width) r w ∷ []) (sets (part_of width) r n ∷ [])
-  sets_follow xs width r n w few fw has =
-      record { since = λ b t h fits. sets_since width r n w few fw has b t h; written = λ byte fits e. absurd (false≢true e); taken = λ byte. no_byte (part_of width) byte }
+  pub sets_follow : (width : Width) (r n : ℕ) (w : Values) → r < 8 → CanonicalValues w → HasValue lane (world_of s) (n % 2 ^ bits width) w
+      → Follows image lane p a s d [] (puts (part_of width) r w ∷ []) (sets (part_of width) r n ∷ [])
+  sets_follow width r n w few fw has =
+      record { since = λ b t h fits. sets_since width r n w few fw has b t h; written = λ byte fits e. absurd (false≢true e); taken = λ byte. no_byte (part_of width) byte; filled = λ fits. tt }
     where
       no_byte : (part : Part) (byte : ℕ) → effects_take (sets part r n ∷ []) (AtByte byte) ≡ false
       no_byte Whole byte = refl
@@ -154,17 +159,20 @@ module _ (image : Image) (lane p : ℕ) (a : AbsState) (s : State) (d : Division
           is = omega (arith, bounds);
         }
 
+    -- it is written as a whole
+    pub saves_filled : effect_fits image s.memory (stores at (number_bytes (size width) n)) ≡ true → (test : ℕ → Bool) → ((byte : ℕ) → is_of_bytes at (number_bytes (size width) n) byte ≡ true → test byte ≡ true)
+        → IsFilled lane s test v (size width)
+    saves_filled fits test passes =
+        record { at = at; range = saved_range image lane s width at n v word has fits; filled = λ k lt. passes (at + k) (number_within (size width) at n k lt) }
+
     pub saves_follow : Follows image lane p a s d (access true v (Some (size width)) ∷ []) (saves v (size width) w ∷ []) (stores at (number_bytes (size width) n) ∷ [])
     saves_follow =
         record {
           since = λ b t h fits. saves_since b t h (and_parts _ _ fits).0;
           written = λ byte fits e. inl (saves_near byte (and_parts _ _ fits).0 (or_end _ e));
           taken = λ byte. refl;
+          filled = λ fits. (saves_filled (and_parts _ _ fits).0 (λ byte. effects_write (stores at (number_bytes (size width) n) ∷ []) (AtByte byte)) (λ byte e. or_left _ _ e), tt);
         }
-      where
-        or_end : (b : Bool) → (b || false) ≡ true → b ≡ true
-        or_end true e = refl
-        or_end false e = e
 
   -- -- Operands
 
@@ -186,10 +194,10 @@ module _ (image : Image) (lane p : ℕ) (a : AbsState) (s : State) (d : Division
       → Gives s (λ byte. ⊥) (Follows image lane p a s d (of_operand true a width (Some o)) (store (view_of a d p) width o w)) (store_reading width o n)
   unfolding store store_reading
   store_follows width (operand.Reg r) target spelt n w fw has quiet =
-      gives_this s (λ byte. ⊥) _ (sets (part_of width) (reg_number r) n ∷ []) (sets_follow [] width (reg_number r) n w (reg_number_below r) fw has)
+      gives_this s (λ byte. ⊥) _ (sets (part_of width) (reg_number r) n ∷ []) (sets_follow width (reg_number r) n w (reg_number_below r) fw has)
   store_follows B8 (operand.High r) target spelt n w fw has quiet =
       gives_this s (λ byte. ⊥) _ (sets High (reg_number r) n ∷ [])
-      (record { since = λ b t h fits. high_since (reg_number r) n w (reg_number_below r) fw has b t h; written = λ byte fits e. absurd (false≢true e); taken = λ byte. refl })
+      (record { since = λ b t h fits. high_since (reg_number r) n w (reg_number_below r) fw has b t h; written = λ byte fits e. absurd (false≢true e); taken = λ byte. refl; filled = λ fits. tt })
   store_follows W16 (operand.High r) target spelt n w fw has quiet = absurd target
   store_follows D32 (operand.High r) target spelt n w fw has quiet = absurd target
   store_follows width (operand.Imm k) target spelt n w fw has quiet = absurd target

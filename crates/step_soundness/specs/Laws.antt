@@ -11,7 +11,8 @@ use Rattle.ia32_semantics.specs.declared.flags.Flags.{Flags}
 use Rattle.ia32_semantics.specs.Alu.{sign}
 use Rattle.ia32_semantics.specs.Condition.{holds}
 use Rattle.ia32_semantics.specs.Effects.{Part, Effect, sets, turns as turns_flag, stores, changed, all_changed, effect_fits, effects_fit, with_part}
-use Rattle.ia32_semantics.specs.Operands.{bits, size, low_part, number_bytes, value, store as machine_store}
+use Rattle.ia32_types.specs.Numbers.{size}
+use Rattle.ia32_semantics.specs.Operands.{bits, low_part, number_bytes, value, store as machine_store}
 use Rattle.ia32_semantics.specs.Reading.{outcome}
 use Rattle.ia32_semantics.specs.Product.{extended}
 use Rattle.ia32_semantics.specs.Machine.{Occurrence}

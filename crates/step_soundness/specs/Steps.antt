@@ -1,5 +1,5 @@
 -- What a step of the machine leaves, in the words of an abstract step of the same instruction. The project's own.
-use Rattle.std.specs.Prelude.{◌≡◌, ℕ, Bool, true, false, List, []}
+use Rattle.std.specs.Prelude.{◌≡◌, ℕ, Bool, true, false, []}
 use Rattle.image_map.specs.declared.image.Image.{Image}
 use Rattle.ia32_types.specs.declared.Instr.{Instr}
 use Rattle.ia32_types.specs.declared.Op.{Op}
@@ -18,9 +18,9 @@ use Rattle.abs_steps.specs.Accesses.{reads, writes}
 use Rattle.abs_steps.specs.Places.{Instruction}
 use Rattle.abs_steps.specs.Rows.{post, view_of}
 use Rattle.abs_steps.specs.Warnings.{warnings}
-use Rattle.step_soundness.specs.Accessed.{IsAccessed}
+use Rattle.step_soundness.specs.Accessed.{IsAccessed, AreFilled, always_written}
 
--- operations of moves, arithmetic and the stack, after which the next instruction follows; strings are apart
+-- operations of moves, arithmetic, the stack and strings, after which the next instruction follows
 unfoldable pub is_plain : Op → Bool
 is_plain op.Call = false
 is_plain op.Ret = false
@@ -29,8 +29,6 @@ is_plain (op.Jcc c) = false
 is_plain op.Hlt = false
 is_plain op.Int3 = false
 is_plain op.Ud2 = false
-is_plain (op.Movs rep) = false
-is_plain (op.Stos rep) = false
 is_plain _ = true
 
 -- An instruction was executed at a node of procedure p whose abstract state stands for the state before, and no warning stands there.
@@ -50,7 +48,8 @@ pub record Advances (image : Image) (lane : ℕ) (a : AbsState) (p : ℕ) (d : D
   pub eip : o.after.eip ≡ next_place i
   pub stands : StandsFor lane (post a i d image p) o.after
 
--- each byte that was read or written is accessed
+-- Each byte that was read or written is accessed, and what is written in any case was.
 pub record KeepsToAccesses (lane : ℕ) (a : AbsState) (i : Instr) (o : Occurrence Act) : Type 0 where
   pub reads : (byte : ℕ) → step_reads o (AtByte byte) ≡ true → IsAccessed lane o.before (reads i.op a i) byte
   pub writes : (byte : ℕ) → step_writes o (AtByte byte) ≡ true → IsAccessed lane o.before (writes i.op a i) byte
+  pub always : AreFilled lane o.before (λ byte. step_writes o (AtByte byte)) (always_written i.op a i)
