@@ -1,5 +1,8 @@
 pub mod TableLemmas
-pub mod OrderLemmas
 pub mod SameLemmas
 pub mod LookLemmas
-pub mod LawfulLemmas
+pub mod ToppedLemmas
+pub mod LentLemmas
+pub mod ClosedLemmas
+pub mod NoteLemmas
+pub mod CleanLemmas

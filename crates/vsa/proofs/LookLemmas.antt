@@ -16,7 +16,7 @@ use Rattle.abs_steps.specs.Calls.{returned}
 use Rattle.abs_steps.specs.Externs.{answered, block_key}
 use Rattle.abs_steps.specs.Rows.{view_of}
 use Rattle.abs_steps.specs.Places.{Content, Extern, Instruction, Nothing, content_at}
-use Rattle.abs_steps.specs.Successors.{Placed, States, at_node, is_at_slot, takes_too_much, extra_of, callee_node, calls_at, goes_back_to, gone_back_to, young_links, returned_by, returned_each, returned_from, answered_from, extern_successors, instruction_successors, successors_by, successors}
+use Rattle.abs_steps.specs.Successors.{Placed, States, at_node, is_at_slot, takes_too_much, extra_of, callee_node, goes_back_to, gone_back_to, young_links, returned_by, returned_each, returned_from, extern_successors, instruction_successors, successors_by, successors}
 use Rattle.vsa.specs.Tables.{Table, state_of}
 use Rattle.vsa.specs.Analysis.{Analysis, placed_of, states_of, is_ret, returns_by, may_return_to}
 

@@ -1,31 +1,19 @@
 -- The test of tables tells whether they are equal.
-use Rattle.std.proofs.Common.{◌≡◌, ℕ, ◌==◌, ◌&&◌, Bool, true, false, refl, sym, ap, subst, ◌∙◌, eq-eqb, eqb-true}
+use Rattle.std.proofs.Common.{◌≡◌, ◌==◌, Bool, true, false, refl, sym, ap, subst, ◌∙◌, eqb-true}
 use Rattle.std.specs.Prelude.{◌↔◌, IsTrue}
-use Rattle.std.proofs.lemmas.Bool.{and_parts, and_from, true≢false}
+use Rattle.std.proofs.lemmas.Bool.{and_parts, true≢false}
 use Rattle.abs_semantics.specs.States.{AbsState}
 use Rattle.vset.specs.Operations.{same_values}
-use Rattle.vset.proofs.SameLemmas.{same_values-equal, equal-same_values}
+use Rattle.vset.proofs.SameLemmas.{same_values-equal}
 use Rattle.cell_map.specs.Lists.{same_lists, same_entry, same_whole, same_known}
-use Rattle.cell_map.proofs.SameLemmas.{same_lists-equal, same_lists-itself, same_entry-equal, same_entry-itself, same_flag-equal, same_flag-itself, same_whole-equal, same_whole-itself, same_known-equal, same_known-itself}
+use Rattle.cell_map.proofs.SameLemmas.{same_lists-equal, same_entry-equal, same_whole-equal, same_known-equal}
 use Rattle.abs_semantics.specs.Joins.{same_flag}
+use Rattle.abs_semantics.proofs.BelowLemmas.{same_flag-equal}
 use Rattle.abs_state.specs.Same.{same_facts, same_numbers}
-use Rattle.abs_state.proofs.EqualLemmas.{facts_equal, facts_itself}
+use Rattle.abs_state.proofs.EqualLemmas.{facts_equal}
 use Rattle.vsa.specs.Tables.{Table, table_of, state_of}
 use Rattle.vsa.specs.Same.{same_table}
-
-pub table_itself : (t : Table) → same_table t t ≡ true
-unfolding same_table
-table_itself t =
-    and_from _ _ (same_lists-itself same_values (λ v. equal-same_values v v refl) t.registers)
-    (and_from _ _ (same_lists-itself same_flag same_flag-itself t.one)
-    (and_from _ _ (same_lists-itself same_flag same_flag-itself t.zero)
-    (and_from _ _ (same_lists-itself same_entry same_entry-itself t.cells)
-    (and_from _ _ (same_lists-itself same_numbers (λ n. eq-eqb n n refl) t.live)
-    (and_from _ _ (same_lists-itself same_numbers (λ n. eq-eqb n n refl) t.older)
-    (and_from _ _ (same_lists-itself same_whole same_whole-itself t.links)
-    (and_from _ _ (same_lists-itself same_known same_known-itself t.aligns)
-    (and_from _ _ (same_lists-itself same_known same_known-itself t.blocks)
-    (and_from _ _ (facts_itself t.fact) (eq-eqb t.root t.root refl))))))))))
+use Rattle.vsa.specs.Lawful.{table_itself}
 
 pub table_equal : (a b : Table) → same_table a b ≡ true → a ≡ b
 unfolding same_table

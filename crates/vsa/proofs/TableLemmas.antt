@@ -1,5 +1,5 @@
 -- States as tables and back.
-use Rattle.std.proofs.Common.{◌≡◌, ℕ, zero, suc, Bool, true, false, cond, nat_lt, List, [], ◌∷◌, map, length, get_or, refl, ap, sym, ◌∙◌, arith}
+use Rattle.std.proofs.Common.{◌≡◌, ℕ, zero, suc, Bool, true, false, cond, nat_lt, map, length, get_or, refl, sym, arith}
 use Rattle.std.proofs.lemmas.Bool.{cond-false, le-ltb}
 use Rattle.std.proofs.lemmas.List.{get_or_past}
 use mathlib.Core.Path.{fun_ext}
@@ -8,7 +8,7 @@ use Rattle.abs_state.specs.Views.{seen}
 use Rattle.vset.specs.Values.{Values, Top}
 use Rattle.abs_semantics.specs.States.{AbsState}
 use Rattle.abs_semantics.specs.Below.{register_numbers, flag_numbers}
-use Rattle.vsa.specs.Tables.{Table, table_of, state_of}
+use Rattle.vsa.specs.Tables.{table_of, state_of}
 
 -- registers past the eighth may hold every value
 pub register_again : (f : ℕ → Values) (n : ℕ) → ((k : ℕ) → f (suc (suc (suc (suc (suc (suc (suc (suc k)))))))) ≡ Top) → get_or (map f register_numbers) n Top ≡ f n

@@ -1,7 +1,6 @@
 -- What the sweeps go by: nodes of a program with abstract states, in tables. The project's own.
 use Rattle.std.specs.Prelude.{ℕ, ◌&&◌, Bool, true, false, List, map}
 use Rattle.image_map.specs.declared.image.Image.{Image}
-use Rattle.image_map.specs.declared.region.Kind.{Kind}
 use Rattle.image_map.specs.declared.region.Kind.TheVariants as kind
 use Rattle.image_map.specs.declared.region.Settings.{Settings}
 use Rattle.ia32_types.specs.declared.Op.{Op}
@@ -13,9 +12,11 @@ use Rattle.abs_semantics.specs.Joins.{joined_state, widened_state}
 use Rattle.abs_semantics.specs.Below.{state_below}
 use Rattle.abs_steps.specs.Places.{Content, Extern, Instruction, Nothing, content_at}
 use Rattle.abs_steps.specs.Successors.{Placed, States, at_node, callee_node, successors}
+use Rattle.transfer_flow.specs.declared.site.Program.{Program}
 use Rattle.sweeps.specs.Meaning.{Meaning}
 use Rattle.vsa.specs.Tables.{Table, table_of, state_of}
 use Rattle.vsa.specs.Same.{same_table}
+use Rattle.vsa.specs.Views.{tables_of}
 use Rattle.vsa.specs.Topped.{topped}
 
 -- what stays the same in all sweeps
@@ -24,6 +25,13 @@ pub record Analysis : Type 0 where
   pub settings : Settings
   pub cells : Division
   pub lane : ℕ
+
+abbrev pub analysis_of : Image → Settings → Division → ℕ → Analysis
+analysis_of image settings cells lane = record { image = image; settings = settings; cells = cells; lane = lane }
+
+-- a program as the code divides it
+abbrev pub program_of : Program → Analysis
+program_of p = analysis_of p.image.now p.settings.now p.cells.now p.lane
 
 -- -- Which nodes a return looks at
 
@@ -53,7 +61,7 @@ abbrev pub states_of : Analysis → List (Node × Table) → States
 states_of x others = record { lane = x.lane; cells = x.cells; placed = placed_of others }
 
 abbrev pub successors_in : Analysis → Node → Table → List (Node × Table) → List (Node × Table)
-successors_in x n t others = map (λ (p : Placed). (p.node, table_of p.state)) (successors x.image x.settings (states_of x others) n (state_of t))
+successors_in x n t others = tables_of (successors x.image x.settings (states_of x others) n (state_of t))
 
 abbrev pub meaning_of : Analysis → Meaning Node Table
 meaning_of x = record {

@@ -1,4 +1,11 @@
 pub mod Topped
 pub mod Tables
 pub mod Same
+pub mod Views
+pub mod NodeOrder
 pub mod Analysis
+pub mod Lawful
+pub mod Closed
+pub mod Swept
+pub mod Warned
+pub mod Laws

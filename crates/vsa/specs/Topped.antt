@@ -5,6 +5,9 @@ use Rattle.image_map.specs.declared.region.Cell.{Cell}
 use Rattle.strided.specs.Interval.{full}
 use Rattle.vset.specs.Values.{Values, Top}
 use Rattle.vset.specs.Operations.{same_values}
+use Rattle.vset.specs.declared.facts.AbsFlags.{AbsFlags}
+use Rattle.ia32_types.specs.declared.Flag.{Flag}
+use Rattle.ia32_types.specs.Sets.{has_flag}
 use Rattle.abs_semantics.specs.declared.parts.Known.{Known}
 use Rattle.abs_semantics.specs.declared.parts.Link.{Link}
 use Rattle.abs_semantics.specs.States.{AbsState, value_at, known_of, rebuilt}
@@ -52,3 +55,7 @@ topped old new =
       blocks = map (topped_size old.blocks) new.blocks;
       fact = fact_of old.fact new.fact;
     }
+
+-- a flag may be the same by both
+abbrev pub is_flag_kept : AbsFlags → AbsFlags → Flag → Bool
+is_flag_kept f g x = same_flag (has_flag f.one x) (has_flag g.one x) && same_flag (has_flag f.zero x) (has_flag g.zero x)

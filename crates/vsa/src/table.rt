@@ -5,7 +5,9 @@ ghost use Rattle.abs_semantics.specs.Below.{state_below};
 ghost use Rattle.abs_state.specs.Views.{seen};
 ghost use Rattle.vsa.specs.Same.{same_table};
 ghost use Rattle.vsa.specs.Tables.{table_of, state_of};
+ghost use Rattle.vsa.specs.Topped.{topped as topped_spec};
 
+use crate::topped::topped;
 use abs_state::AbsState;
 use std::alloc::{AllocError, Global};
 use std::marker::Model;
@@ -30,8 +32,10 @@ impl Model for Tabled {
 
 impl Tabled {
     /// A state's table.
+    #[tactic(auto, using(crate::proofs::TableLemmas::seen_again))]
     pub fn new(state: AbsState) -> Tabled
-        ensures { result ≡ table_of (seen state) }
+        ensures table { result ≡ table_of (seen state) }
+        ensures state { state_of result ≡ seen state }
     {
         Tabled { state }
     }
@@ -73,6 +77,14 @@ impl Tabled {
         ensures { IfOk result (λ t. t ≡ table_of (widened_state (state_of self.now) (state_of other.now))) }
     {
         let state = self.state().widen(alloc, other.state())?;
+        Ok(Tabled::new(state))
+    }
+
+    /// Another state, in which everything is allowed wherever it differs from this one.
+    pub fn top_differences(&self, alloc: Global, new: &Tabled) -> Result<Tabled, AllocError>
+        ensures { IfOk result (λ t. t ≡ table_of (topped_spec (state_of self.now) (state_of new.now))) }
+    {
+        let state = topped(alloc, self.state(), new.state())?;
         Ok(Tabled::new(state))
     }
 

@@ -1,4 +1,4 @@
-use Rattle.std.proofs.Common.{ap, sym, ◌∙◌}
+use Rattle.std.proofs.Common.{ap, ◌∙◌}
 use Rattle.abs_semantics.specs.Below.{state_below}
 use Rattle.abs_state.specs.Views.{seen}
 use Rattle.vsa.specs.Tables.{state_of}

@@ -1,4 +1,3 @@
-use Rattle.std.proofs.Common.{ap, sym, ◌∙◌}
 use Rattle.abs_state.specs.Views.{seen}
 use Rattle.vsa.proofs.SameLemmas.{same_told}
 use Rattle.vsa.proofs.table.Tabled.is_same.Goals as goal

@@ -1,23 +1,13 @@
 -- What the sweeps ask of the order of nodes.
-use Rattle.std.proofs.Common.{◌≡◌, ℕ, Bool, true, false, List, ◌⊎◌, inl, inr, ⊎_elim, refl, ap, sym, ◌∙◌, eqb-true}
+use Rattle.std.proofs.Common.{◌≡◌, ℕ, Bool, true, false, List, refl, sym, ◌∙◌}
 use Rattle.std.proofs.lemmas.Bool.{true≢false}
-use Rattle.std.specs.Cmp.Lexicographic.{slice_cmp, pointwise, same_text, texts_ties}
-use Rattle.std.specs.Prelude.{nat_eq}
-use Rattle.std.specs.Ordering.{is_eq, is_lt, nat_cmp, ordering_then}
-use Rattle.std.specs.declared.cmp.Ordering.{Ordering}
-use Rattle.std.specs.declared.cmp.Ordering.TheVariants.{Less, Equal, Greater}
+use Rattle.std.specs.Cmp.Lexicographic.{slice_cmp, same_text, texts_ties}
+use Rattle.std.specs.Ordering.{is_eq, nat_cmp}
 use Rattle.call_strings.specs.declared.context.Node.{Node}
 use Rattle.call_strings.specs.Nodes.{place_cmp, node_cmp, node_before}
 use Rattle.call_strings.proofs.OrderLaws.{node_total}
-use Rattle.image_map.proofs.OrderLemmas.{before-trans, before-irreflexive, before-total, nat_same}
-
-both_tied : (o p : Ordering) → is_eq (ordering_then o p) ≡ true → (is_eq o ≡ true) × (is_eq p ≡ true)
-both_tied Less p h = absurd (cc)
-both_tied Equal p h = (refl, h)
-both_tied Greater p h = absurd (cc)
-
-same_number : (m n : ℕ) → is_eq (nat_cmp m n) ≡ true → m ≡ n
-same_number m n h = eqb-true m n (sym (nat_same m n) ∙ h)
+use Rattle.image_map.proofs.OrderLemmas.{before-trans, before-irreflexive, before-total}
+use Rattle.image_map.proofs.OrderLaws.{both_tied, number_equal}
 
 same_sites : (xs ys : List ℕ) → is_eq (slice_cmp nat_cmp xs ys) ≡ true → xs ≡ ys
 same_sites xs ys h = same_text xs ys (sym (texts_ties xs ys ∙ h))
@@ -27,9 +17,9 @@ unfolding node_cmp
 node_equal a b h =
     let outer = both_tied (nat_cmp a.context.proc b.context.proc) (place_cmp a b) h in
     let inner = both_tied (slice_cmp nat_cmp a.context.sites b.context.sites) (nat_cmp a.at b.at) outer.1 in
-    let proc : a.context.proc ≡ b.context.proc = same_number a.context.proc b.context.proc outer.0 in
+    let proc : a.context.proc ≡ b.context.proc = number_equal a.context.proc b.context.proc outer.0 in
     let sites : a.context.sites ≡ b.context.sites = same_sites a.context.sites b.context.sites inner.0 in
-    let at : a.at ≡ b.at = same_number a.at b.at inner.1 in
+    let at : a.at ≡ b.at = number_equal a.at b.at inner.1 in
     λ i. record { context = record { proc = proc i; sites = sites i }; at = at i }
 
 pub nodes_irreflexive : (a : Node) → node_before a a ≡ false
