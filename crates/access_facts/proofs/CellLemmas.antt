@@ -1,24 +1,21 @@
 -- What must be written may be written.
-use Rattle.std.proofs.Common.{◌≡◌, ◌≤◌, ◌<◌, ℕ, zero, suc, ◌+◌, Bool, true, false, cond, not, ◌&&◌, ◌||◌, List, [], ◌∷◌, length, map, Option, Some, None, ℤ, pos, ◌+ℤ◌, refl, sym, subst, ◌∙◌, ap, arith}
+use Rattle.std.proofs.Common.{◌≡◌, ℕ, Bool, true, false, ◌&&◌, ◌||◌, List, [], ◌∷◌, Option, Some, None, pos, ◌+ℤ◌, refl, sym, subst, ◌∙◌, ap, arith}
 use Rattle.std.specs.Prelude.{◌<ℤ◌, ◌≤ℤ◌, int_le, is_some}
-use Rattle.std.specs.Int.{int_max}
-use Rattle.std.specs.Prelude.{◌-ℤ◌}
-use Rattle.strided.specs.Operations.{clip}
 use Rattle.std.specs.List.{list_any}
-use Rattle.std.proofs.lemmas.Bool.{and_parts, true≢false, false≢true}
+use Rattle.std.proofs.lemmas.Bool.{and_parts, true≢false, or_left, and_right, and_left, and_from}
 use Rattle.std.proofs.lemmas.Int.{ints}
 use Rattle.image_map.specs.declared.image.Image.{Image}
 use Rattle.image_map.specs.declared.region.Cell.{Cell}
 use Rattle.image_map.specs.declared.region.RegionId.{RegionId}
 use Rattle.image_map.specs.declared.region.RegionId.TheVariants.{Global, Frame, OldFrame, Heap, OldHeap}
 use Rattle.image_map.specs.Regions.{same_region}
-use Rattle.strided.specs.Interval.{Interval, IsMember, IsCanonical}
+use Rattle.strided.specs.Interval.{Interval, IsCanonical}
 use Rattle.strided.proofs.MemberLemmas.{int_le_true}
 use Rattle.strided.proofs.BoundLemmas.{member_lo}
 use Rattle.alocs.specs.Extents.{home}
 use Rattle.vset.specs.declared.part.Part.{Part}
 use Rattle.vset.specs.Values.{AreCanonical}
-use Rattle.abs_semantics.specs.Touching.{touches, any_touches, meeting, is_within, sure_place}
+use Rattle.abs_semantics.specs.Touching.{touches, meeting, is_within, sure_place}
 use Rattle.abs_semantics.proofs.EntryLemmas.{sure_is}
 use Rattle.abs_semantics.proofs.MeetLemmas.{meets as member_meets}
 use Rattle.access_facts.specs.declared.reach.Reach.{Reach}
@@ -40,19 +37,6 @@ sure_home older (OldHeap key) sure = absurd (true≢false (sym sure))
 some_is : (o : Option Interval) (m : Interval) → o ≡ Some m → is_some o ≡ true
 some_is o m e = ap is_some e
 
-both : (a b : Bool) → a ≡ true → b ≡ true → (a && b) ≡ true
-both true true p q = refl
-both true false p q = q
-both false b p q = p
-
-or_first : (a b : Bool) → a ≡ true → (a || b) ≡ true
-or_first true b p = refl
-or_first false b p = absurd (true≢false (sym p))
-
-second_none : (a b : Bool) → b ≡ false → (a && b) ≡ false
-second_none true b e = e
-second_none false b e = refl
-
 -- a cell that isn't empty, within a range at the one offset of a part
 filled_touches : (older : List ℕ) (len : ℕ) (c : Cell) (x : Part) → c.start <ℤ c.end → IsCanonical x.si → (is_sure older x.region && is_within len x c) ≡ true → touches len c (at_home x) ≡ true
 filled_touches older len c x some form e =
@@ -62,7 +46,7 @@ filled_touches older len c x some form e =
     let from : x.si.lo ≤ℤ c.start = int_le_true x.si.lo c.start first.1 in
     let to : c.end ≤ℤ (x.si.lo +ℤ pos len) = int_le_true c.end (x.si.lo +ℤ pos len) inner.1 in
     let met = member_meets x.si.lo len c x.si form (member_lo x.si form) (omega (arith, ints)) (omega (arith, ints)) in
-    both (same_region (home x.region) c.region) (is_some (meeting x.si len c)) (ap (λ r. same_region r c.region) (sure_home older x.region parts.0) ∙ first.0) (some_is (meeting x.si len c) met.met met.is)
+    and_from (same_region (home x.region) c.region) (is_some (meeting x.si len c)) (ap (λ r. same_region r c.region) (sure_home older x.region parts.0) ∙ first.0) (some_is (meeting x.si len c) met.met met.is)
 
 fills_writes : (image : Image) (older : List ℕ) (len : ℕ) (xs : List Part) (c : Cell) → c.start <ℤ c.end → AreCanonical xs → fills_place older len c (sure_place xs) ≡ true → meets len xs c ≡ true
 fills_writes image older len xs c some form e = by_place (sure_place xs) refl e
@@ -72,7 +56,7 @@ fills_writes image older len xs c some form e = by_place (sure_place xs) refl e
     by_place (Some x) is e =
         let one : xs ≡ x ∷ [] = (sure_is xs x is).0 in
         let canonical : AreCanonical (x ∷ []) = subst AreCanonical one form in
-        ap (λ ys. meets len ys c) one ∙ or_first (touches len c (at_home x)) false (filled_touches older len c x some canonical.0 e)
+        ap (λ ys. meets len ys c) one ∙ or_left (touches len c (at_home x)) false (filled_touches older len c x some canonical.0 e)
 
 pub must_may : (image : Image) (older : List ℕ) (c : Cell) (r : Reach) → c.start <ℤ c.end → IsFormed r → must_write older c r ≡ true → may_write image c r ≡ true
 must_may image older c Anywhere some form e = absurd (true≢false (sym e))
@@ -84,7 +68,7 @@ filled_written image older (r ∷ rs) c some forms e =
     by_first (must_write older c r) (may_write image c r) (is_filled older rs c) (is_written image rs c) (must_may image older c r some forms.0) (filled_written image older rs c some forms.1) e
   where
     by_first : (a b p q : Bool) → (a ≡ true → b ≡ true) → (p ≡ true → q ≡ true) → (a || p) ≡ true → (b || q) ≡ true
-    by_first true b p q f g e = or_first b q (f refl)
+    by_first true b p q f g e = or_left b q (f refl)
     by_first false true p q f g e = refl
     by_first false false p q f g e = g e
 
@@ -94,10 +78,6 @@ or_none : (a b : Bool) → (a || b) ≡ false → (a ≡ false) × (b ≡ false)
 or_none true b e = absurd (true≢false e)
 or_none false b e = (refl, e)
 
-and_none : (a b : Bool) → a ≡ false → (a && b) ≡ false
-and_none true b e = absurd (true≢false e)
-and_none false b e = refl
-
 none_of : {A : Type 0} (f g : A → Bool) → ((x : A) → f x ≡ false → g x ≡ false) → (xs : List A) → list_any f xs ≡ false → list_any g xs ≡ false
 none_of f g less [] e = refl
 none_of f g less (x ∷ xs) e =
@@ -106,7 +86,7 @@ none_of f g less (x ∷ xs) e =
 
 not_for : (len : ℕ) (r : RegionId) (c : Cell) → c.region ≡ r → (x : Part) → is_for r x ≡ false → touches len c (at_home x) ≡ false
 not_for len r c of x isnt =
-    and_none (same_region (home x.region) c.region) (is_some (meeting x.si len c))
+    and_left (same_region (home x.region) c.region) (is_some (meeting x.si len c))
     (ap (same_region (home x.region)) of ∙ (or_none (same_region (home x.region) r) (same_region x.region r) isnt).0)
 
 meets_none : (len : ℕ) (r : RegionId) (c : Cell) (xs : List Part) → c.region ≡ r → list_any (is_for r) xs ≡ false → meets len xs c ≡ false
@@ -124,8 +104,8 @@ fills_none older len r c xs of none = by_place (sure_place xs) refl
         let alone : (is_for r x || false) ≡ false = ap (list_any (is_for r)) (sym (sure_is xs x is).0) ∙ none in
         let isnt : is_for r x ≡ false = (or_none (is_for r x) false alone).0 in
         let other : same_region x.region c.region ≡ false = ap (same_region x.region) of ∙ (or_none (same_region (home x.region) r) (same_region x.region r) isnt).1 in
-        second_none (is_sure older x.region) (is_within len x c)
-        (and_none (same_region x.region c.region && int_le x.si.lo c.start) (int_le c.end (x.si.lo +ℤ pos len)) (and_none (same_region x.region c.region) (int_le x.si.lo c.start) other))
+        and_right (is_sure older x.region) (is_within len x c)
+        (and_left (same_region x.region c.region && int_le x.si.lo c.start) (int_le c.end (x.si.lo +ℤ pos len)) (and_left (same_region x.region c.region) (int_le x.si.lo c.start) other))
 
 unread : (r : RegionId) (c : Cell) → c.region ≡ r → (x : Reach) → comes_to r x ≡ false → may_read c x ≡ false
 unread r c of Anywhere none = absurd (true≢false none)
@@ -143,8 +123,3 @@ pub none_picked_in : (r : RegionId) (test : Test) → any_comes_to r test ≡ fa
 none_picked_in r (Read rs) none c of = none_of (comes_to r) (may_read c) (unread r c of) rs.now none
 none_picked_in r (Written image rs) none c of = none_of (comes_to r) (may_write image.now c) (unwritten image.now r c of) rs.now none
 none_picked_in r (Filled older rs) none c of = none_of (comes_to r) (must_write older.now c) (unfilled older.now r c of) rs.now none
-
--- -- What is met
-
-pub met_is : (si : Interval) (len : ℕ) (c : Cell) (low last : ℤ) (o : Option Interval) → low ≡ int_max si.lo ((c.start -ℤ pos len) +ℤ pos 1) → last ≡ c.end -ℤ pos 1 → o ≡ clip si low last → is_some o ≡ is_some (meeting si len c)
-met_is si len c low last o from to is = ap is_some (is ∙ ap (λ l. clip si l last) from ∙ ap (clip si (int_max si.lo ((c.start -ℤ pos len) +ℤ pos 1))) to)

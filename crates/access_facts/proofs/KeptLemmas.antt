@@ -1,14 +1,18 @@
 -- Lists that are pushed one after the other.
-use Rattle.std.proofs.Common.{◌≡◌, ◌≤◌, ◌<◌, ℕ, ◌+◌, List, [], ◌∷◌, ◌++◌, length, drop, get_or, map, refl, sym, ◌∙◌, ap, append_assoc, append-nil, arith}
+use Rattle.std.proofs.Common.{◌≡◌, ◌≤◌, ◌<◌, ℕ, ◌+◌, List, [], ◌∷◌, ◌++◌, length, drop, get_or, map, sym, ◌∙◌, ap, append_assoc, append-nil}
 use Rattle.std.proofs.lemmas.List.{drop_more, drop_all}
 use Rattle.image_map.specs.declared.image.Image.{Image}
 use Rattle.alocs.specs.declared.cells.CutList.{CutList}
 use Rattle.access_facts.specs.Kept.{frame_list, global_list, heap_list, lists_of}
 
+-- an element that is read in place
+pub read_step : {A B : Type 0} (g : A → B) (xs : List A) (i : ℕ) (d : A) (out next whole : List B) → i < length xs → next ≡ out ++ g (get_or xs i d) ∷ [] → out ++ map g (drop i xs) ≡ whole → next ++ map g (drop (i + 1) xs) ≡ whole
+read_step {A} {B} g xs i d out next whole lt put e =
+    let rest : List B = map g (drop (i + 1) xs) in
+    ap (λ t. t ++ rest) put ∙ append_assoc out (g (get_or xs i d) ∷ []) rest ∙ sym (ap (λ ys. out ++ map g ys) (drop_more xs i d lt)) ∙ e
+
 pub number_step : {A : Type 0} (g : ℕ → A) (xs : List ℕ) (i : ℕ) (out next whole : List A) → i < length xs → next ≡ out ++ g (get_or xs i 0) ∷ [] → out ++ map g (drop i xs) ≡ whole → next ++ map g (drop (i + 1) xs) ≡ whole
-number_step {A} g xs i out next whole lt put e =
-    let rest : List A = map g (drop (i + 1) xs) in
-    ap (λ t. t ++ rest) put ∙ append_assoc out (g (get_or xs i 0) ∷ []) rest ∙ sym (ap (λ ys. out ++ map g ys) (drop_more xs i 0 lt)) ∙ e
+number_step g xs i = read_step g xs i 0
 
 pub number_end : {A : Type 0} (g : ℕ → A) (xs : List ℕ) (i : ℕ) (out whole : List A) → length xs ≤ i → out ++ map g (drop i xs) ≡ whole → out ≡ whole
 number_end g xs i out whole le e = sym (append-nil out) ∙ sym (ap (λ ys. out ++ map g ys) (drop_all i xs le)) ∙ e

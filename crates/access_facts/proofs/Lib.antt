@@ -12,3 +12,4 @@ pub mod CoreLemmas
 pub mod CorePlaceLemmas
 pub mod KeptLemmas
 pub mod NodeLemmas
+pub mod FlowLemmas

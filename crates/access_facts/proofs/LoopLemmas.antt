@@ -1,5 +1,5 @@
 -- Lists that are gone through, and what is put at the end of another for each element.
-use Rattle.std.proofs.Common.{◌≡◌, ◌≤◌, ◌<◌, ℕ, suc, ◌+◌, Bool, true, false, cond, ◌||◌, List, [], ◌∷◌, ◌++◌, length, drop, get_or, map, refl, sym, ◌∙◌, ap, append_assoc, append-nil, arith}
+use Rattle.std.proofs.Common.{◌≡◌, ◌≤◌, ◌<◌, ℕ, ◌+◌, Bool, true, false, ◌||◌, List, [], ◌∷◌, ◌++◌, length, drop, get_or, map, sym, ◌∙◌, ap, append_assoc, append-nil, arith}
 use Rattle.std.specs.List.{flat_map, list_any}
 use Rattle.std.proofs.lemmas.List.{drop_more, drop_all}
 use Rattle.vset.specs.declared.part.Part.{Part}
@@ -36,9 +36,6 @@ pub any_found : {A : Type 0} (f : A → Bool) (xs : List A) (i : ℕ) (x : A) (w
 any_found {A} f xs i x whole t lt is asked found e =
     let here : f (get_or xs i x) ≡ true = ap f (sym is) ∙ sym asked ∙ found in
     sym (ap (λ b. b || list_any f (drop (i + 1) xs)) here) ∙ sym (ap (list_any f) (drop_more xs i x lt)) ∙ e
-
-pub any_none : {A : Type 0} (f : A → Bool) (xs : List A) (i : ℕ) (whole : Bool) → length xs ≤ i → list_any f (drop i xs) ≡ whole → false ≡ whole
-any_none {A} f xs i whole le e = sym (ap (list_any f) (drop_all i xs le)) ∙ e
 
 -- -- Places that follow one another
 

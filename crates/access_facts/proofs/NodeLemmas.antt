@@ -10,7 +10,7 @@ use Rattle.image_map.specs.declared.region.Kind.{Kind}
 use Rattle.ia32_types.specs.declared.Instr.{Instr}
 use Rattle.abs_steps.specs.Views.{View}
 use Rattle.abs_steps.specs.Accesses.{accesses, reads, writes, extern_accesses, extern_reads, extern_writes}
-use Rattle.abs_steps.specs.Places.{Content, Extern, Instruction, Nothing, targets, followed}
+use Rattle.abs_steps.specs.Places.{Extern, Instruction, Nothing, targets, followed}
 use Rattle.abs_steps.specs.Successors.{is_call}
 use Rattle.access_facts.specs.declared.reach.Reach.{Reach}
 use Rattle.access_facts.specs.declared.reach.Reach.TheVariants.{Anywhere}

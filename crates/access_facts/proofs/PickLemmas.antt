@@ -1,7 +1,6 @@
 -- The places of what a test picks, one after the other.
-use Rattle.std.proofs.Common.{◌≡◌, ◌≤◌, ◌<◌, ℕ, zero, suc, ◌+◌, ◌^◌, Bool, true, false, cond, List, [], ◌∷◌, ◌++◌, length, drop, get_or, refl, sym, subst, ◌∙◌, ap, append_assoc, append-nil, arith}
+use Rattle.std.proofs.Common.{◌≡◌, ◌≤◌, ◌<◌, ℕ, zero, suc, ◌+◌, ◌^◌, Bool, true, false, cond, List, [], ◌∷◌, ◌++◌, length, drop, map, get_or, refl, sym, subst, ◌∙◌, ap, append_assoc, append-nil, arith}
 use Rattle.std.specs.Prelude.{◌<ℤ◌}
-use Rattle.std.specs.List.{flat_map}
 use Rattle.std.proofs.lemmas.List.{drop_more, drop_all}
 use Rattle.image_map.specs.declared.region.Cell.{Cell}
 use Rattle.access_facts.specs.declared.rows.Row.{Row}
@@ -134,10 +133,8 @@ unfolding picked
 read_all_picked {A} test n xs view i out whole seen le e =
     sym (append-nil out) ∙ sym (ap (λ (ys : List A). out ++ picked test n ys) (drop_all i view le)) ∙ ap (λ (ys : List A). out ++ picked test n (drop i ys)) seen ∙ e
 
-pub some_read : (cs view : List Cell) (i : ℕ) (d : Cell) → view ≡ cs → AreSome cs → i < length view → (get_or view i d).start <ℤ (get_or view i d).end
-some_read cs view i d seen some lt = some_at view i d (subst AreSome (sym seen) some) lt
-  where
-    some_at : (xs : List Cell) (i : ℕ) (d : Cell) → AreSome xs → i < length xs → (get_or xs i d).start <ℤ (get_or xs i d).end
-    some_at [] i d some lt = absurd (omega arith)
-    some_at (x ∷ xs) zero d some lt = some.0
-    some_at (x ∷ xs) (suc i) d some lt = some_at xs i d some.1 (omega arith)
+-- what is picked of things that are seen otherwise
+pub picked_map : {A B : Type 0} (test : B → Bool) (f : A → B) (n : ℕ) (xs : List A) → picked (λ x. test (f x)) n xs ≡ picked test n (map f xs)
+unfolding picked
+picked_map test f n [] = refl
+picked_map test f n (x ∷ xs) = ap (λ t. cond (test (f x)) (n ∷ t) t) (picked_map test f (n + 1) xs)

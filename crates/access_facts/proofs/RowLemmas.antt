@@ -1,17 +1,15 @@
 -- Rows put behind others, and the cells of a region.
-use Rattle.std.proofs.Common.{◌≡◌, ◌≤◌, ◌<◌, ℕ, zero, suc, ◌+◌, ◌*◌, Bool, true, false, cond, ◌^◌, ◌⊎◌, ⊎_elim, List, [], ◌∷◌, ◌++◌, length, map, drop, get_or, ℤ, pos, negsuc, ◌+ℤ◌, refl, sym, subst, ◌∙◌, ap, append_assoc, append-nil, arith}
-use Rattle.std.specs.Prelude.{◌<ℤ◌, ◌≤ℤ◌, ◌↔◌, Contains}
-use Rattle.std.specs.List.{flat_map}
-use Rattle.std.proofs.lemmas.List.{drop_more, drop_all}
+use Rattle.std.proofs.Common.{◌≡◌, ◌≤◌, ◌<◌, ℕ, ◌+◌, ◌*◌, Bool, true, false, cond, ◌^◌, ⊎_elim, List, [], ◌∷◌, ◌++◌, length, ℤ, pos, ◌+ℤ◌, refl, sym, subst, ◌∙◌, ap, append_assoc, append-nil, arith}
+use Rattle.std.specs.Prelude.{◌<ℤ◌, ◌≤ℤ◌, Contains}
 use Rattle.std.proofs.lemmas.Int.{ints}
 use Rattle.image_map.specs.declared.region.Cell.{Cell}
 use Rattle.image_map.specs.declared.region.RegionId.{RegionId}
 use Rattle.image_map.specs.declared.region.RegionId.TheVariants.{Global, Frame, OldFrame, Heap, OldHeap}
-use Rattle.strided.specs.Interval.{Interval, IsMember, full, least, greatest}
+use Rattle.strided.specs.Interval.{Interval, full, least, greatest}
 use Rattle.alocs.specs.declared.extents.Extent.{Extent}
 use Rattle.std.specs.Prelude.{int_lt, ◌&&◌}
 use Rattle.std.specs.Int.{int_gap}
-use Rattle.std.proofs.lemmas.Bool.{cond_both, and_parts}
+use Rattle.std.proofs.lemmas.Bool.{and_parts}
 use Rattle.std.proofs.lemmas.List.Elements.{Contains-append_cases}
 use Rattle.alocs.proofs.CellLemmas.{cells_in_rise, int_lt_true}
 use Rattle.alocs.proofs.ExtentLemmas.{extents_lower}
@@ -23,6 +21,7 @@ use Rattle.alocs.specs.Cells.{cells_from, cells_in, cuts_of, CellsRise, IsTouche
 use Rattle.alocs.proofs.MemberLaws.{contains-cases, contains-head, contains-tail, contains-none}
 use Rattle.access_facts.specs.declared.rows.Row.{Row}
 use Rattle.access_facts.specs.Rows.{AreInside, AreNumbered, AreRows, AreSome, AreOf, cells_in_rows, end_of_rows}
+use Rattle.abs_semantics.proofs.ReadLemmas.{in_region}
 
 -- -- A row more
 
@@ -75,23 +74,8 @@ pub sound_of_rise : (low : ℤ) (cs : List Cell) → CellsRise low cs → AreSom
 sound_of_rise low [] rise = tt
 sound_of_rise low (c ∷ cs) rise = (rise.1, sound_of_rise c.end cs rise.2)
 
--- cells are of their region
-of_append : (r : RegionId) (xs ys : List Cell) → AreOf r xs → AreOf r ys → AreOf r (xs ++ ys)
-of_append r [] ys h rest = rest
-of_append r (x ∷ xs) ys h rest = (h.0, of_append r xs ys h.1 rest)
-
-from_of : (r : RegionId) (start : ℤ) (cuts : List ℤ) (end : ℤ) → AreOf r (cells_from r start cuts end)
-from_of r start [] end = (refl, tt)
-from_of r start (cut ∷ cuts) end =
-    cond_both (int_lt start cut && int_lt cut end) (record { region = r; start = start; end = cut } ∷ cells_from r cut cuts end) (cells_from r start cuts end) (AreOf r)
-    (λ _. (refl, from_of r cut cuts end)) (λ _. from_of r start cuts end)
-
-in_of : (r : RegionId) (xs : List Extent) (cuts : List ℤ) → AreOf r (cells_in r xs cuts)
-in_of r [] cuts = tt
-in_of r (x ∷ xs) cuts = of_append r (cells_from r x.start cuts x.end) (cells_in r xs cuts) (from_of r x.start cuts x.end) (in_of r xs cuts)
-
 pub cells_are_of : (d : Division) (r : RegionId) → AreOf r (cells_of d r)
-cells_are_of d r = in_of r (extents d.image r) (cuts_of d.lists r)
+cells_are_of d r = in_region r (extents d.image r) (cuts_of d.lists r)
 
 -- -- They are all touched by some offset
 

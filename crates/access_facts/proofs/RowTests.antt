@@ -17,7 +17,6 @@ use Rattle.ia32_types.specs.declared.Operand.{Operand}
 use Rattle.ia32_types.specs.declared.Operand.TheVariants as operand
 use Rattle.ia32_types.specs.declared.Op.{Op}
 use Rattle.ia32_types.specs.declared.Op.TheVariants as op
-use Rattle.ia32_types.specs.declared.Instr.{Instr}
 use Rattle.ia32_types.specs.Places.{op_reads, op_writes, op_flag_reads, op_flag_writes}
 use Rattle.strided.specs.Interval.{Interval, interval, one}
 use Rattle.strided.specs.Gcd.{gcd, gcd_within}
@@ -27,11 +26,10 @@ use Rattle.vset.specs.Values.{Values, Top, Parts, settled}
 use Rattle.vset.specs.Operations as vset
 use Rattle.vset.specs.Operations.{part}
 use Rattle.asi_cuts.specs.declared.facts.Constraint.TheVariants.{Bounds, Elements, Same}
-use Rattle.abs_semantics.specs.States.{AbsState}
 use Rattle.abs_semantics.specs.Resolve.{verdict, rising_onto, levels, resolve}
 use Rattle.abs_semantics.specs.Operands.{address}
-use Rattle.abs_steps.specs.Views.{View, value_of}
-use Rattle.abs_steps.specs.Accesses.{accesses, reads, writes, extern_reads, extern_writes, argument_at}
+use Rattle.abs_steps.specs.Views.{View}
+use Rattle.abs_steps.specs.Accesses.{accesses, reads, writes, extern_reads, extern_writes}
 use Rattle.abs_steps.specs.Places.{Content, Extern, Instruction, targets, followed, known_targets}
 use Rattle.abs_steps.specs.Rows.{view_of}
 use Rattle.access_facts.specs.Places.{picked, register_places, flag_places, regions_of}

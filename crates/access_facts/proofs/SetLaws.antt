@@ -1,12 +1,9 @@
 -- Laws on the sets of a node.
-use Rattle.std.proofs.Common.{◌≡◌, ◌≤◌, ◌<◌, ◌⊎◌, ⊎_elim, ℕ, zero, suc, ◌+◌, Bool, true, false, cond, List, [], ◌∷◌, ◌++◌, length, refl, sym, subst, ◌∙◌, ap, arith}
+use Rattle.std.proofs.Common.{◌≡◌, ⊎_elim, ℕ, zero, suc, ◌+◌, Bool, true, false, cond, List, [], ◌∷◌, ◌++◌, refl, sym, subst}
 use Rattle.std.specs.Prelude.{Contains, Some, slice_get, ◌<ℤ◌}
-use Rattle.std.proofs.lemmas.Bool.{cond_both, true≢false}
 use Rattle.std.proofs.lemmas.List.Elements.{Contains-append_left, Contains-append_right, Contains-append_cases}
 use Rattle.image_map.specs.declared.image.Image.{Image}
 use Rattle.image_map.specs.declared.region.Cell.{Cell}
-use Rattle.ia32_types.specs.declared.Reg.{Reg}
-use Rattle.ia32_types.specs.declared.Flag.{Flag}
 use Rattle.ia32_types.specs.Places.{registers_written, flags_written}
 use Rattle.alocs.proofs.MemberLaws.{contains-none}
 use Rattle.abs_semantics.specs.States.{AbsState}
@@ -21,7 +18,7 @@ use Rattle.access_facts.specs.Forms.{AreFormed}
 use Rattle.access_facts.specs.Cores.{registers_used, registers_defined, registers_always, flags_used, flags_defined, flags_always, writes_registers_always, writes_flags_always}
 use Rattle.access_facts.specs.Sets.{may_use, may_def, must_def, read_reaches, write_reaches, sure_reaches, writes_surely, older_behind}
 use Rattle.access_facts.proofs.CellLemmas.{filled_written}
-use Rattle.access_facts.proofs.MemberLemmas.{IsPicked, picked_has, has_picked}
+use Rattle.access_facts.proofs.MemberLemmas.{picked_has, has_picked}
 use Rattle.access_facts.proofs.RiseLemmas.{places_rise}
 
 -- -- They rise

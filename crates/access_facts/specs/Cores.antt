@@ -1,5 +1,5 @@
 -- Which registers and flags a node reads, may write, and writes always. The project's own.
-use Rattle.std.specs.Prelude.{ℕ, Bool, true, false, pos, int_le, if◌then◌else◌, List, [], ◌∷◌, Option, Some, None}
+use Rattle.std.specs.Prelude.{Bool, true, false, pos, int_le, if◌then◌else◌, List, [], ◌∷◌, Option, Some, None}
 use Rattle.image_map.specs.declared.region.Kind.{Kind}
 use Rattle.image_map.specs.declared.region.Kind.TheVariants as kind
 use Rattle.ia32_types.specs.declared.Reg.{Reg}

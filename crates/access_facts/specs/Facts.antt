@@ -1,5 +1,5 @@
 -- What the accesses of a map say of the cuts of regions. The project's own.
-use Rattle.std.specs.Prelude.{ℕ, ◌==◌, ◌&&◌, nat_le, Bool, true, false, ℤ, pos, ◌+ℤ◌, if◌then◌else◌, List, [], ◌∷◌, ◌++◌, map}
+use Rattle.std.specs.Prelude.{ℕ, ◌&&◌, nat_le, Bool, true, false, if◌then◌else◌, List, [], ◌∷◌, ◌++◌, map}
 use Rattle.std.specs.Int.{int_min}
 use Rattle.std.specs.List.{flat_map}
 use Rattle.image_map.specs.declared.image.Image.{Image}
@@ -9,7 +9,7 @@ use Rattle.ia32_types.specs.declared.Width.{Width}
 use Rattle.abs_semantics.specs.States.{AbsState}
 use Rattle.ia32_types.specs.declared.Op.TheVariants as op
 use Rattle.ia32_types.specs.declared.Instr.{Instr}
-use Rattle.ia32_semantics.specs.Operands.{size}
+use Rattle.ia32_types.specs.Numbers.{size}
 use Rattle.strided.specs.Interval.{greatest}
 use Rattle.strided.specs.Operations.{count}
 use Rattle.alocs.specs.Extents.{home}

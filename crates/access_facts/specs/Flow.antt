@@ -1,5 +1,5 @@
 -- The flow graph of a map from nodes to abstract states. The project's own.
-use Rattle.std.specs.Prelude.{ℕ, ◌==◌, ◌&&◌, not, Bool, true, false, List, [], ◌∷◌, map, Option, Some, None}
+use Rattle.std.specs.Prelude.{ℕ, ◌==◌, ◌&&◌, not, Bool, true, false, List, [], ◌∷◌, map, Option}
 use Rattle.std.specs.List.{list_any}
 use Rattle.image_map.specs.declared.image.Image.{Image}
 use Rattle.image_map.specs.declared.region.Cell.{Cell}
@@ -9,7 +9,6 @@ use Rattle.image_map.specs.declared.region.Settings.{Settings}
 use Rattle.ia32_types.specs.declared.Operand.{Operand}
 use Rattle.ia32_types.specs.declared.Op.{Op}
 use Rattle.ia32_types.specs.declared.Op.TheVariants as op
-use Rattle.ia32_types.specs.declared.Instr.{Instr}
 use Rattle.call_strings.specs.declared.context.Node.{Node}
 use Rattle.call_strings.specs.Nodes.{same_node}
 use Rattle.flow_graph.specs.declared.graph.FlowNode.{FlowNode}

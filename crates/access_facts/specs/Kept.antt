@@ -1,5 +1,5 @@
 -- The lists of cuts that the round after a map keeps. The project's own.
-use Rattle.std.specs.Prelude.{ℕ, ◌==◌, Bool, pos, negsuc, if◌then◌else◌, List, [], ◌∷◌, ◌++◌, map}
+use Rattle.std.specs.Prelude.{ℕ, ◌==◌, pos, negsuc, if◌then◌else◌, List, [], ◌∷◌, ◌++◌, map}
 use Rattle.image_map.specs.declared.image.Image.{Image}
 use Rattle.image_map.specs.declared.region.RegionId.TheVariants.{Global, Frame, Heap}
 use Rattle.alocs.specs.declared.cells.CutList.{CutList}

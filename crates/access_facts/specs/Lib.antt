@@ -12,3 +12,5 @@ pub mod Next
 pub mod Flow
 pub mod Facts
 pub mod Kept
+pub mod Maps
+pub mod Kinds

@@ -10,7 +10,7 @@ use Rattle.ia32_types.specs.declared.Reg.TheVariants.{Eax, Ecx, Edx, Ebx, Esp, E
 use Rattle.ia32_types.specs.declared.Flag.{Flag}
 use Rattle.ia32_types.specs.declared.Flag.TheVariants.{Cf, Pf, Zf, Sf, Of, Df}
 use Rattle.ia32_types.specs.Sets.{is_listed_reg, is_listed_flag}
-use Rattle.alocs.specs.Cells.{Division, cells_of}
+use Rattle.alocs.specs.Cells.{cells_of}
 use Rattle.abs_semantics.specs.declared.parts.Known.{Known}
 use Rattle.call_strings.specs.declared.context.Node.{Node}
 use Rattle.abs_semantics.specs.States.{AbsState}

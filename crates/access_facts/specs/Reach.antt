@@ -1,5 +1,5 @@
 -- How far an access to memory may reach, in the regions that a graph has. The project's own.
-use Rattle.std.specs.Prelude.{ℕ, Bool, true, List, [], ◌∷◌, map, Option, Some, None}
+use Rattle.std.specs.Prelude.{ℕ, List, map, Option, Some, None}
 use Rattle.vset.specs.declared.part.Part.{Part}
 use Rattle.alocs.specs.Extents.{home}
 use Rattle.vset.specs.Values.{Values}

@@ -1,7 +1,6 @@
 -- The cells of a graph as they are kept: a row for each region. The project's own.
 use Rattle.std.specs.Prelude.{ℕ, ◌+◌, ◌<◌, ◌^◌, ◌≡◌, ◌<ℤ◌, List, [], ◌∷◌, length, Bool, true, ◌||◌, pos, ◌≤ℤ◌, Contains}
 use Rattle.std.specs.List.{flat_map, list_any}
-use Rattle.image_map.specs.declared.image.Image.{Image}
 use Rattle.image_map.specs.declared.region.Cell.{Cell}
 use Rattle.image_map.specs.declared.region.RegionId.{RegionId}
 use Rattle.image_map.specs.Regions.{same_region}

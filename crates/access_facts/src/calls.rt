@@ -5,10 +5,9 @@ ghost use Rattle.abs_semantics.specs.States.{has_procedure as has_procedure_spec
 ghost use Rattle.abs_state.specs.Views.{seen};
 ghost use Rattle.access_facts.specs.Sets.{older_after as older_after_spec, slot_reach as slot_reach_spec};
 
-use crate::cells::has_procedure;
-use crate::numbers::put;
 use crate::reach::Reach;
-use abs_state::AbsState;
+use abs_state::{AbsState, put_number};
+use cell_map::has_number;
 use image_map::RegionId;
 use item_list::Items;
 use std::alloc::{AllocError, Global};
@@ -56,10 +55,10 @@ fn with_target(alloc: Global, state: &AbsState, target: u32) -> Result<Vec<u32>,
     ensures { IfOk result (λ v. v.items ≡ (if has_procedure_spec target state.now.live then with_number target state.now.older else state.now.older)) }
 {
     let mut older = copy_of(alloc, state.older.as_slice())?;
-    if !has_procedure(target, state.live.as_slice()) {
+    if !has_number(state.live.as_slice(), target) {
         return Ok(older);
     }
-    put(&mut older, target)?;
+    put_number(&mut older, target)?;
     Ok(older)
 }
 

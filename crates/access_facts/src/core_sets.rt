@@ -8,6 +8,7 @@ ghost use Rattle.abs_state.specs.Views.{seen};
 ghost use Rattle.abs_steps.specs.Places.{Extern, Instruction};
 ghost use Rattle.access_facts.specs.Cores.{flags_always, is_number as is_number_spec, is_once_at_least, is_repeated as is_repeated_spec, is_shift as is_shift_spec, registers_always, writes_flags_always as writes_flags_always_spec, writes_registers_always as writes_registers_always_spec};
 ghost use Rattle.access_facts.specs.CoreSets.{AreCores, AreEmpty, IsReturning, stops as stops_spec};
+ghost use Rattle.transfer_flow.specs.Contents.{meant};
 ghost use Rattle.vset.specs.Values.{only_number};
 
 use abs_state::AbsState;
@@ -15,6 +16,7 @@ use ia32_types::{
     Flag, FlagSet, Instr, Op, Operand, Reg, RegSet, flag_reads, flag_writes, reg_reads, reg_writes,
 };
 use image_map::Kind;
+use transfer_flow::Content;
 
 /// The registers and flags of a node.
 #[derive(Clone, Copy)]
@@ -89,13 +91,13 @@ fn writes_flags_always(instr: &Instr) -> bool
 fn no_register() -> RegSet
     ensures { HasRegs result [] }
 {
-    RegSet(0)
+    RegSet::none()
 }
 
 fn no_flag() -> FlagSet
     ensures { HasFlags result [] }
 {
-    FlagSet(0)
+    FlagSet::none()
 }
 
 #[tactic(auto, unfolding(crate::specs::Cores::registers_always))]
@@ -211,4 +213,15 @@ pub(crate) fn extern_cores(kind: &Kind) -> CoreSets
         return no_cores();
     }
     returning_cores()
+}
+
+/// The registers and flags of what stands at a node, in an abstract state.
+pub(crate) fn cores_of(state: &AbsState, content: &Content) -> CoreSets
+    ensures { AreCores (seen state.now) (meant content.now) result }
+{
+    match content {
+        Content::Extern(kind) => extern_cores(kind),
+        Content::Instruction(instr) => instruction_cores(state, instr),
+        Content::Nothing => no_cores(),
+    }
 }

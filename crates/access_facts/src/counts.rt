@@ -1,6 +1,5 @@
 //! How often an instruction repeats, where it is known.
 ghost use Rattle.std.specs.Prelude.{◌≡◌, ◌*◌, ◌^◌, ◌&&◌, nat_le, pos, int_le, unsigned_abs};
-ghost use Rattle.ia32_semantics.specs.Operands.{size as size_spec};
 ghost use Rattle.abs_state.specs.Views.{seen};
 ghost use Rattle.abs_steps.specs.Strings.{count_of, goes_up as goes_up_spec};
 ghost use Rattle.access_facts.specs.Facts.{copies as copies_spec};
@@ -10,16 +9,6 @@ use crate::core_sets::is_repeated;
 use abs_state::AbsState;
 use ia32_types::{Flag, Instr, Op, Reg, Width};
 use strided::Si;
-
-fn size(width: &Width) -> u32
-    ensures { result ≡ size_spec width.now }
-{
-    match width {
-        Width::B8 => 1,
-        Width::W16 => 2,
-        Width::D32 => 4,
-    }
-}
 
 fn goes_up(state: &AbsState) -> bool
     ensures { result ≡ goes_up_spec (seen state.now).flags }
@@ -60,7 +49,7 @@ pub(crate) fn writes_a_known_count(state: &AbsState, instr: &Instr) -> bool
     ensures { result ≡ writes_a_known_count_spec (seen state.now) instr.now }
 {
     if is_repeated(&instr.op) {
-        is_one_count(state, size(&instr.width))
+        is_one_count(state, instr.width.bytes())
     } else {
         true
     }
@@ -74,7 +63,7 @@ pub(crate) fn copies(state: &AbsState, op: &Op, width: &Width) -> bool
     match op {
         Op::Movs { rep } => {
             if *rep {
-                is_one_count(state, size(width))
+                is_one_count(state, width.bytes())
             } else {
                 true
             }

@@ -12,10 +12,10 @@ ghost use Rattle.abs_steps.specs.Views.{View};
 ghost use Rattle.access_facts.specs.Reach.{reaches as reaches_spec};
 ghost use Rattle.access_facts.specs.Facts.{facts_at, are_elements as are_elements_spec, bounds as bounds_spec, elements as elements_spec, facts_of_copies, facts_of_copy, facts_of_part, facts_of_parts, facts_of_reach, same as same_spec, same_as_next};
 
-use crate::cells::home;
 use crate::counts::copies;
 use crate::reach::Reach;
 use abs_state::AbsState;
+use alocs::home;
 use asi_cuts::Constraint;
 use ia32_types::Instr;
 use std::alloc::AllocError;

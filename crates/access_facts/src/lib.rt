@@ -2,14 +2,18 @@
 //! and must define, and where memory is to be cut.
 #![tactic(auto)]
 
+mod accesses;
 mod calls;
 mod cells;
 mod core_sets;
 mod counts;
+mod cuts;
 mod ends;
 mod facts;
+mod graph;
 mod graph_cells;
 mod kept;
+mod kinds;
 mod laws;
 mod next;
 mod node;
@@ -20,9 +24,11 @@ mod rows;
 mod sets;
 mod visits;
 
+pub use cuts::{constraints, kept_lists};
+pub use graph::flow;
+pub use kinds::step_kinds;
 pub use laws::{must_definitions_are_definitions, places_of_cells, places_rise};
 pub use reach::{Reach, reaches};
-pub use visits::Listed;
 
 #[cfg(test)]
 mod tests;

@@ -1,14 +1,16 @@
 //! Numbers, rising, each once.
-ghost use Rattle.std.specs.Prelude.{◌≡◌, ◌==◌, ◌||◌, nat_lt, not, [], IfOk, OnOk, map};
-ghost use Rattle.std.specs.List.{flat_map, position, position_or_len};
+ghost use Rattle.std.specs.Prelude.{◌≡◌, ◌++◌, [], IfOk, OnOk, map};
 ghost use Rattle.abs_semantics.specs.declared.parts.Known.{Known};
 ghost use Rattle.image_map.specs.Regions.{number};
-ghost use Rattle.abs_semantics.specs.Joins.{numbers_of, with_number};
-ghost use Rattle.abs_state.specs.Views.{seen};
+ghost use Rattle.abs_semantics.specs.Joins.{numbers_of};
+ghost use Rattle.abs_steps.specs.Successors.{Placed};
+ghost use Rattle.std.specs.List.{flat_map};
+ghost use Rattle.transfer_flow.specs.Successors.{placed_of};
+ghost use Rattle.access_facts.specs.Maps.{all_of};
 ghost use Rattle.access_facts.specs.Places.{keys as keys_spec, keys_in, procedures as procedures_spec};
 
 use abs_semantics::Known;
-use abs_state::AbsState;
+use abs_state::{AbsState, put_number};
 use call_strings::Node;
 use image_map::RegionId;
 use std::alloc::{AllocError, Global};
@@ -20,98 +22,68 @@ pub(crate) struct Names {
     pub keys: Vec<u32>,
 }
 
-fn stops_at(x: u32, n: u32) -> bool
-    ensures { result ≡ (x == n || not (nat_lt x n)) }
-{
-    x == n || !(x < n)
-}
-
-fn first_at(xs: &[u32], n: u32) -> Option<usize>
-    ensures { result ≡ position (λ x. x == n || not (nat_lt x n)) xs.now }
-{
-    xs.iter().position(|x| stops_at(*x, n))
-}
-
-// Where a number stands among others, or would.
-fn place(xs: &[u32], n: u32) -> usize
-    ensures { result ≡ position_or_len (λ x. x == n || not (nat_lt x n)) xs.now }
-{
-    match first_at(xs, n) {
-        Some(place) => place,
-        None => xs.len(),
-    }
-}
-
-pub(crate) fn put(xs: &mut Vec<u32>, n: u32) -> Result<(), AllocError>
-    ensures { OnOk result (xs.new.items ≡ with_number n xs.old.items) }
-{
-    let place = place(xs.as_slice(), n);
-    if place < xs.len() && xs[place] == n {
-        return Ok(());
-    }
-    xs.insert(place, n)?;
-    Ok(())
-}
-
-// The procedures that have a node, rising.
-#[tactic(auto, unfolding(crate::specs::Places::procedures))]
-fn procedures(alloc: Global, nodes: &[Node]) -> Result<Vec<u32>, AllocError>
-    ensures { IfOk result (λ v. v.items ≡ procedures_spec nodes.now) }
+// Some numbers, rising, each once.
+fn rising(alloc: Global, numbers: &[u32]) -> Result<Vec<u32>, AllocError>
+    ensures { IfOk result (λ v. v.items ≡ numbers_of numbers.now []) }
 {
     let mut found = Vec::new(alloc);
-    let mut rest = nodes;
-    while let Some((node, before)) = rest.split_last() {
-        put(&mut found, node.context.proc)?;
+    let mut rest = numbers;
+    while let Some((number, before)) = rest.split_last() {
+        put_number(&mut found, *number)?;
         rest = before;
     }
     Ok(found)
 }
 
-fn key(region: &RegionId) -> u32
-    ensures { result ≡ number region.now }
+// The procedures of all nodes.
+fn all_procedures(alloc: Global, placed: &[(&Node, &AbsState)]) -> Result<Vec<u32>, AllocError>
+    ensures { IfOk result (λ v. v.items ≡ map (λ o. (placed_of o).node.context.proc) placed.now) }
 {
-    match region {
+    let mut found = Vec::new(alloc);
+    for other in placed {
+        found.push(other.0.context.proc)?;
+    }
+    Ok(found)
+}
+
+fn key_of(known: &Known) -> u32
+    ensures { result ≡ number known.now.region }
+{
+    match known.region {
         RegionId::Global => 0,
-        RegionId::Frame(n) | RegionId::OldFrame(n) | RegionId::Heap(n) | RegionId::OldHeap(n) => *n,
+        RegionId::Frame(n) | RegionId::OldFrame(n) | RegionId::Heap(n) | RegionId::OldHeap(n) => n,
     }
 }
 
-// Puts the keys of a state's blocks among others.
-fn put_keys(found: &mut Vec<u32>, blocks: &[Known]) -> Result<(), AllocError>
-    ensures { OnOk result (found.new.items ≡ numbers_of (map (λ (k : Known). number k.region) blocks.now) found.old.items) }
+// Puts the keys of a state's blocks behind others.
+fn push_keys(found: &mut Vec<u32>, blocks: &[Known]) -> Result<(), AllocError>
+    ensures { OnOk result (found.new.items ≡ found.old.items ++ map (λ (k : Known). number k.region) blocks.now) }
 {
-    let mut rest = blocks;
-    while let Some((known, before)) = rest.split_last() {
-        put(found, key(&known.region))?;
-        rest = before;
+    for block in blocks {
+        found.push(key_of(block))?;
     }
     Ok(())
 }
 
-// The keys of the blocks that states have, rising.
-#[tactic(auto, unfolding(crate::specs::Places::keys))]
-fn keys(alloc: Global, states: &[AbsState]) -> Result<Vec<u32>, AllocError>
-    ensures { IfOk result (λ v. v.items ≡ keys_spec (map seen states.now)) }
+// The keys of the blocks of all states.
+fn all_keys(alloc: Global, placed: &[(&Node, &AbsState)]) -> Result<Vec<u32>, AllocError>
+    ensures { IfOk result (λ v. v.items ≡ flat_map (λ o. keys_in (placed_of o).state) placed.now) }
 {
     let mut found = Vec::new(alloc);
-    let mut rest = states;
-    while let Some((state, before)) = rest.split_last() {
-        put_keys(&mut found, state.blocks.as_slice())?;
-        rest = before;
+    for other in placed {
+        push_keys(&mut found, other.1.blocks.as_slice())?;
     }
     Ok(found)
 }
 
 /// The procedures that have a node, and the keys of the blocks that states have.
-pub(crate) fn names_in(
-    alloc: Global,
-    nodes: &[Node],
-    states: &[AbsState],
-) -> Result<Names, AllocError>
-    ensures procedures { IfOk result (λ names. names.procedures.items ≡ procedures_spec nodes.now) }
-    ensures keys { IfOk result (λ names. names.keys.items ≡ keys_spec (map seen states.now)) }
+pub(crate) fn names_in(alloc: Global, placed: &[(&Node, &AbsState)]) -> Result<Names, AllocError>
+    ensures procedures { IfOk result (λ names. names.procedures.items ≡ procedures_spec (map (λ (p : Placed). p.node) (all_of placed.now))) }
+    ensures keys { IfOk result (λ names. names.keys.items ≡ keys_spec (map (λ (p : Placed). p.state) (all_of placed.now))) }
 {
-    let procedures = procedures(alloc, nodes)?;
-    let keys = keys(alloc, states)?;
+    let told = all_procedures(alloc, placed)?;
+    let procedures = rising(alloc, told.as_slice())?;
+    let found = all_keys(alloc, placed)?;
+    let keys = rising(alloc, found.as_slice())?;
     Ok(Names { procedures, keys })
 }

@@ -1,11 +1,12 @@
 //! The cells of a graph, and the places of those that accesses touch.
-ghost use Rattle.std.specs.Prelude.{◌≡◌, ◌++◌, ◌<ℤ◌, [], ◌∷◌, cond, false, OnOk};
+ghost use Rattle.std.specs.Prelude.{◌≡◌, ◌++◌, [], ◌∷◌, cond, false, OnOk};
 ghost use Rattle.std.specs.List.{list_any};
 ghost use Rattle.access_facts.specs.Places.{cell_places, picked};
 ghost use Rattle.access_facts.specs.Rows.{AreRows, any_comes_to, cells_in_rows, comes_to as comes_to_spec, is_for as is_for_spec, picks as picks_spec};
 
-use crate::cells::{home, is_filled, is_read, is_written};
+use crate::cells::{is_filled, is_read, is_written};
 use crate::reach::Reach;
+use alocs::home;
 use image_map::{Cell, Image, RegionId};
 use item_list::Items;
 use std::alloc::AllocError;
@@ -71,7 +72,6 @@ impl Test<'_> {
     }
 
     fn picks(&self, cell: &Cell) -> bool
-        requires { cell.now.start <ℤ cell.now.end }
         ensures { result ≡ picks_spec self.now cell.now }
     {
         match self {

@@ -80,7 +80,7 @@ fn read_at(alloc: Global, rows: &[Row], reaches: &[Reach]) -> Result<Items<u32>,
     requires { AreRows 14 rows.now }
 {
     let test = Test::Read(reaches);
-    places_of(alloc, RegSet::only(Reg::Esp), FlagSet(0), rows, &test)
+    places_of(alloc, RegSet::only(Reg::Esp), FlagSet::none(), rows, &test)
 }
 
 fn written_at(
@@ -92,7 +92,7 @@ fn written_at(
     requires { AreRows 14 rows.now }
 {
     let test = Test::Written(image, reaches);
-    places_of(alloc, RegSet::only(Reg::Esp), FlagSet(0), rows, &test)
+    places_of(alloc, RegSet::only(Reg::Esp), FlagSet::none(), rows, &test)
 }
 
 fn filled_at(
@@ -104,7 +104,7 @@ fn filled_at(
     requires { AreRows 14 rows.now }
 {
     let test = Test::Filled(older, reaches);
-    places_of(alloc, RegSet::only(Reg::Esp), FlagSet(0), rows, &test)
+    places_of(alloc, RegSet::only(Reg::Esp), FlagSet::none(), rows, &test)
 }
 
 #[test]

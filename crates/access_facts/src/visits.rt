@@ -20,7 +20,8 @@ use ia32_types::Instr;
 use std::alloc::{AllocError, Global};
 
 /// What is read at a node, and what is written.
-pub struct Listed<'a> {
+#[derive(Drop)]
+pub(crate) struct Listed<'a> {
     pub reads: &'a [Access],
     pub writes: &'a [Access],
 }

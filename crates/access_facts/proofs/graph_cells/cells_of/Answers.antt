@@ -1,5 +1,4 @@
 use Rattle.std.proofs.Common.{sym, subst}
-use Rattle.alocs.specs.Cells.{cells_of}
 use Rattle.access_facts.specs.Rows.{AreOf}
 use Rattle.access_facts.proofs.RowLemmas.{touched_are_all, sound_of_rise, cells_are_of}
 use Rattle.access_facts.proofs.graph_cells.cells_of.Goals as goal

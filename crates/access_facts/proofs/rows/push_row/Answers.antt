@@ -1,8 +1,8 @@
-use Rattle.std.proofs.Common.{sym, ◌∙◌, arith, ◌++◌}
+use Rattle.std.proofs.Common.{sym, ◌∙◌, arith}
 use Rattle.access_facts.specs.Places.{picked}
 use Rattle.access_facts.specs.Rows.{picks}
 use Rattle.access_facts.proofs.CellLemmas.{none_picked_in}
-use Rattle.access_facts.proofs.PickLemmas.{nothing_put, row_passed, read_picked, read_all_picked, some_read}
+use Rattle.access_facts.proofs.PickLemmas.{nothing_put, row_passed, read_picked, read_all_picked}
 use Rattle.access_facts.proofs.rows.push_row.Goals as goal
 
 pub returns-then-not-comes_to : goal.returns-then-not-comes_to
@@ -11,9 +11,6 @@ returns-then-not-comes_to c =
     let test = c.args.test.now in
     nothing_put c.args.places.now.items (picked (picks test) row.first row.cells)
     (row_passed (picks test) row.first row.region row.cells c.requires.3 (none_picked_in row.region test (sym c.comes_to.ensures ∙ c.if-not-comes_to.true)))
-
-pub picks-requires : goal.picks-requires
-picks-requires c = some_read c.args.row.now.cells c.as_slice-cell-items.result.now c.loop-cell.cell-index _ c.as_slice-cell-items.ensures c.requires.2 c.loop-cell-test.true
 
 pub loop-cell-preserved : goal.loop-cell-preserved
 loop-cell-preserved c = (
