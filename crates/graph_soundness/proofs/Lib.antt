@@ -1,0 +1,14 @@
+pub mod ExternTables
+pub mod RepeatTables
+pub mod CorePlaces
+pub mod CoreLaws
+pub mod SpotLaws
+pub mod ReachLaws
+pub mod StepReads
+pub mod MoveLaws
+pub mod GraphLaws
+pub mod SetLaws
+pub mod StepWrites
+pub mod StepAlways
+pub mod PlaceLaws
+pub mod CheckLaws
