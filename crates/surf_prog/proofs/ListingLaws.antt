@@ -8,7 +8,7 @@ use Rattle.std.specs.Fmt.{decimal}
 use Rattle.image_map.specs.declared.image.Image.{Image}
 use Rattle.ia32_types.specs.declared.Instr.{Instr}
 use Rattle.surf_prog.specs.Listing.{StandsAt, Follow, instr_line, listing_text, IsListing, IsTheListing}
-use Rattle.slice_soundness.proofs.ArchitectureLemmas.{one_fetched}
+use Rattle.ia32_semantics.proofs.ActLaws.{one_fetched}
 
 -- The lines so far, of instructions behind which stands what follows at a place.
 pub record Told (image : Image) (at steps place count : ℕ) (text : List ℕ) : Type 0 where

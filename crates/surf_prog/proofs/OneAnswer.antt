@@ -1,6 +1,7 @@
 -- A file answers a task in one way at most.
 use Rattle.std.proofs.Common.{◌≡◌, ℕ, zero, suc, ◌+◌, List, [], ◌∷◌, Option, Some, sym, ◌∙◌, ap, subst}
 use Rattle.std.specs.Prelude.{false, take}
+use Rattle.std.proofs.lemmas.Option.{same_Some}
 use Rattle.ia32_types.specs.declared.Instr.{Instr}
 use Rattle.ia32_types.specs.Spells.{Spells}
 use Rattle.image_map.specs.declared.image.Image.{Image}
@@ -81,7 +82,7 @@ stops_are_one file (task.Trace entry options) one other p q = absurd p
 
 pub absences_are_one : AbsencesAreOne
 absences_are_one file (task.Slice entry at lane) one other p q = p.0 ∙ sym q.0
-absences_are_one file (task.Trace entry options) one other p q = absurd p
+absences_are_one file (task.Trace entry options) one other p q = same_Some one other (sym p.3.named ∙ q.3.named)
 absences_are_one file (task.List entry from steps) one other p q = let same : ◌≡◌ {A = Option ℕ} (Some one) (Some other) = sym p.0 ∙ q.0 in cc
 
 pub outcomes_exclude : OutcomesExclude

@@ -37,6 +37,7 @@ use Rattle.surf_prog.proofs.StraightCode.GraphLemmas.{has_from, from_has, node_c
 use Rattle.surf_prog.proofs.StraightCode.MapLemmas.{is_among, index_in, stands_as, among_is}
 use Rattle.surf_prog.proofs.StraightCode.StopLemmas.{straight_or_stops}
 use Rattle.surf_prog.proofs.FileImage.{same_code, same_code_of, one_place, not_lacking}
+use Rattle.surf_prog.proofs.OneTrace.{trace_comes, run_comes}
 
 -- -- What a file answers: one thing at most
 
@@ -72,7 +73,7 @@ reply_enters file (task.Trace entry options) has = record { image = has.0; place
 pub absent_enters : (file : List ℕ) (asked : Task) (at : ℕ) → IsAbsent file asked at → Entered file asked
 absent_enters file (task.Slice entry criterion lane) at absent = record { image = absent.1.1.image; place = absent.1.1.place; entered = absent.1.1.entered }
 absent_enters file (task.List entry from steps) at absent = record { image = absent.1.0; place = absent.1.1; entered = absent.1.2 }
-absent_enters file (task.Trace entry options) at absent = absurd absent
+absent_enters file (task.Trace entry options) at absent = record { image = absent.0; place = absent.1; entered = absent.2 }
 
 pub unsupported_enters : (file : List ℕ) (asked : Task) (at : ℕ) → IsUnsupported file asked at → Entered file asked
 unsupported_enters file (task.Slice entry criterion lane) at unsupported = record { image = unsupported.0; place = unsupported.1; entered = unsupported.2 }
@@ -87,7 +88,7 @@ code_supported file entry instrs criterion lane at has unsupported =
 pub absent_supported : (file : List ℕ) (asked : Task) (place at : ℕ) → IsAbsent file asked place → ¬ IsUnsupported file asked at
 absent_supported file (task.Slice entry criterion lane) place at absent = code_supported file entry absent.1.0 criterion lane at absent.1.1
 absent_supported file (task.List entry from steps) place at absent = λ unsupported. absurd unsupported
-absent_supported file (task.Trace entry options) place at absent = absurd absent
+absent_supported file (task.Trace entry options) place at absent = λ unsupported. absurd unsupported
 
 pub reply_supported : (file : List ℕ) (asked : Task) (at : ℕ) → HasReply file asked → ¬ IsUnsupported file asked at
 reply_supported file (task.Slice entry criterion lane) at has = code_supported file entry has.0 criterion lane at has.1
@@ -104,12 +105,12 @@ list_present file entry (Some at) absent has is image loads none =
 pub reply_present : (file : List ℕ) (asked : Task) (place : ℕ) → HasReply file asked → ¬ IsAbsent file asked place
 reply_present file (task.Slice entry at lane) place has absent = absent.1.2 (subst (λ is. HasNode is at) (one_code file entry has.0 absent.1.0 has.1 absent.1.1) has.2)
 reply_present file (task.List entry from steps) place has absent = list_present file entry from place has absent.0 absent.1.0 absent.1.2.loads absent.1.3
-reply_present file (task.Trace entry options) place has absent = absurd absent
+reply_present file (task.Trace entry options) place has absent = run_comes file entry options has.0 absent.0 has.1 absent.1 place has.2 absent.2 has.3 absent.3
 
 has_reply : (file : List ℕ) (asked : Task) (text : List ℕ) → IsReply file asked text → HasReply file asked
 has_reply file (task.Slice entry at lane) text reply = (reply.instrs, reply.code, reply.told.criterion)
 has_reply file (task.List entry from steps) text reply = reply.there
-has_reply file (task.Trace entry options) text reply = (reply.image, reply.place, reply.entered)
+has_reply file (task.Trace entry options) text reply = (reply.image, reply.place, reply.entered, trace_comes reply.image reply.place options text reply.told)
 
 -- where the first place of a list isn't code, that place was named
 pub list_absent : (file : List ℕ) (entry : Option Entry) (image : Image) (place : ℕ) (from : Option ℕ) (steps absent : ℕ) → Enters file entry image place → absent ≡ first_place place from → is_code image absent ≡ false → IsAbsent file (task.List entry from steps) absent

@@ -22,6 +22,8 @@ use Rattle.ia32_run.specs.declared.log.RunLog.{RunLog}
 use Rattle.ia32_run.specs.declared.log.Finish.{Finish}
 use Rattle.ia32_run.specs.Acts.{AreKnown}
 use Rattle.ia32_run.specs.Traces.{Goes, IsTrace}
+use Rattle.requests.specs.Texts.{address_line}
+use Rattle.std.specs.List.{flat_map}
 use Rattle.surf_prog.specs.Tracing.{next_word, seed_words, kind_after, ends_program, reads_one_word, reads_no_word, reads_text, reads_two_texts, known_kind, is_kind, kind_or_known, kind_named, kind_of, settings_of, spaced, step_line, step_lines}
 
 -- -- Words of choice
@@ -129,6 +131,14 @@ spaced_more old new numbers after whole n kept is push =
 pub spaced_none : (old numbers whole : List ℕ) → old ++ spaced numbers ≡ whole → length numbers ≡ 0 → old ≡ whole
 spaced_none old [] whole kept none = sym (append-nil old) ∙ kept
 spaced_none old (n ∷ numbers) whole kept none = absurd (omega arith)
+
+pub addresses_more : (old new : List ℕ) (addresses after whole : List ℕ) (a : ℕ) → old ++ flat_map address_line addresses ≡ whole → addresses ≡ a ∷ after → new ≡ old ++ address_line a → new ++ flat_map address_line after ≡ whole
+addresses_more old new addresses after whole a kept is push =
+    ap (λ l. l ++ flat_map address_line after) push ∙ append_assoc old (address_line a) (flat_map address_line after) ∙ ap (λ l. old ++ flat_map address_line l) (sym is) ∙ kept
+
+pub addresses_none : (old addresses whole : List ℕ) → old ++ flat_map address_line addresses ≡ whole → length addresses ≡ 0 → old ≡ whole
+addresses_none old [] whole kept none = sym (append-nil old) ∙ kept
+addresses_none old (a ∷ addresses) whole kept none = absurd (omega arith)
 
 pub steps_more : (skip_sp : Bool) (k next : ℕ) (old new : List ℕ) (steps after : List Occurrence) (step : Occurrence) (whole : List ℕ) → old ++ step_lines skip_sp k steps ≡ whole → steps ≡ step ∷ after
     → new ≡ old ++ step_line skip_sp k step → next ≡ k + 1 → new ++ step_lines skip_sp next after ≡ whole

@@ -18,7 +18,7 @@ use Rattle.slicer.specs.Slicer.{FlowEdge, IsSlice}
 use Rattle.surf_prog.specs.Straight.Code.{IsStraight, StopsAt, straight_graph}
 use Rattle.surf_prog.specs.Straight.Bytes.{code_of}
 use Rattle.surf_prog.specs.Listing.{IsTheListing}
-use Rattle.surf_prog.specs.Tracing.{IsTracing}
+use Rattle.surf_prog.specs.Tracing.{IsTracing, NeverComes, Comes}
 use Rattle.surf_prog.specs.declared.words.RunOptions.{RunOptions}
 use Rattle.requests.specs.Texts.{slice_text}
 use Rattle.surf_prog.specs.Entry.{Enters, LacksEntry}
@@ -91,7 +91,7 @@ IsReply file (task.Trace entry options) text = IsTraceReply file entry options t
 abbrev pub HasReply : List ℕ → Task → Type 0
 HasReply file (task.Slice entry at lane) = (instrs : List Instr) × HasCode file entry instrs × HasNode instrs at
 HasReply file (task.List entry from steps) = HasList file entry from
-HasReply file (task.Trace entry options) = (image : Image) × (place : ℕ) × Enters file entry image place
+HasReply file (task.Trace entry options) = (image : Image) × (place : ℕ) × Enters file entry image place × Comes image place options
 
 -- the file has no image: this check is the first that fails
 abbrev pub HasNoImage : List ℕ → ElfError → Type 0
@@ -108,12 +108,13 @@ IsUnsupported file (task.Slice entry at lane) stop =
 IsUnsupported file (task.List entry from steps) stop = ⊥
 IsUnsupported file (task.Trace entry options) stop = ⊥
 
--- the code is straight, and no node stands at the address; or a list was to begin at this address, which isn't code
+-- the code is straight, and no node stands at the address; or a list was to begin at this address, which isn't code; or a run never
+-- comes to it
 abbrev pub IsAbsent : List ℕ → Task → ℕ → Type 0
 IsAbsent file (task.Slice entry at lane) absent = (absent ≡ at) × ((instrs : List Instr) × HasCode file entry instrs × ¬ HasNode instrs at)
 IsAbsent file (task.List entry from steps) absent =
     (from ≡ Some absent) × ((image : Image) × (place : ℕ) × Enters file entry image place × (is_code image absent ≡ false))
-IsAbsent file (task.Trace entry options) absent = ⊥
+IsAbsent file (task.Trace entry options) absent = (image : Image) × (place : ℕ) × Enters file entry image place × NeverComes image place options absent
 
 -- -- What is told on the error sink
 

@@ -20,7 +20,7 @@ abbrev pub TellsAddress : List ℕ → ℕ → Type 0
 TellsAddress text address = (before : List ℕ) × (after : List ℕ) × (text ≡ before ++ (address_line address ++ after))
 
 -- Wherever in a run of the file's image an occurrence at the criterion depends on another, the text tells the other's address,
--- whatever kinds its externs have. (A list has no criterion, and neither has a trace.)
+-- whatever kinds its externs have. (A list has no criterion, and a trace tells of one run alone.)
 abbrev pub TellsDependences : List ℕ → Task → List ℕ → Type 0
 TellsDependences file (task.Slice entry at lane) text =
     (image : Image) → Loads file image → (settings : Settings) → entry_place image entry ≡ Some settings.entry

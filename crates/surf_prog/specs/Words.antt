@@ -22,20 +22,17 @@ slice_asked image at options =
 abbrev pub list_asked : List ℕ → Option ℕ → Options → Request
 list_asked image at options = record { name = image; task = task.List options.entry at options.steps }
 
--- Of traces there are those that ask for no dynamic slice; as long as there are no others, words with an address are refused.
-abbrev pub trace_asked : List ℕ → Option ℕ → Options → Option Request
-trace_asked image None options =
-    Some (record {
-      name = image;
-      task = task.Trace options.entry (record { skip_sp = options.skip_sp; steps = options.steps; seed = options.seed; externs = options.externs });
-    })
-trace_asked image (Some at) options = None
+abbrev pub trace_asked : List ℕ → Option ℕ → Options → Request
+trace_asked image at options = record {
+  name = image;
+  task = task.Trace options.entry (record { at = at; skip_sp = options.skip_sp; steps = options.steps; seed = options.seed; externs = options.externs });
+}
 
 -- what a task and its options ask for; a task that isn't there yet is refused
 abbrev pub task_asked : Command → Options → Option Request
 task_asked (commands.Slice image at) options = slice_asked image at options
 task_asked (commands.List image at) options = Some (list_asked image at options)
-task_asked (commands.Trace image at) options = trace_asked image at options
+task_asked (commands.Trace image at) options = Some (trace_asked image at options)
 task_asked other options = None
 
 abbrev pub line_asked : CommandLine → Option Request

@@ -2,6 +2,7 @@
 #![tactic(auto)]
 
 mod adapters;
+mod dynamic;
 mod entry;
 mod laws;
 mod line;

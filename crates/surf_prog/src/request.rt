@@ -13,6 +13,7 @@ ghost use Rattle.surf_prog.specs.Straight.Code.{most_instructions};
 ghost use Rattle.surf_prog.specs.RunReply.{WritesDependences};
 ghost use Rattle.surf_prog.specs.Answer.{Replies, RepliesFrom, SlicesStraight, FindsEntry, IsNoImage, Answers};
 
+use crate::dynamic::Traced;
 use crate::entry::entry_place;
 use crate::list::listing;
 use crate::refusal::{Refusal, complain, status};
@@ -144,7 +145,10 @@ fn trace_reply(
     requires { IsImage image.now }
     ensures { RepliesFrom image.now place (λ entry. kinds.Trace entry options.now) result }
 {
-    Ok(tracing(alloc, image, place, options)?)
+    match tracing(alloc, image, place, options)? {
+        Traced::Text(text) => Ok(text),
+        Traced::Never(at) => Err(NoReply::Absent(at)),
+    }
 }
 
 // The image of a file.
@@ -278,7 +282,8 @@ pub fn once<F: Shelf, K: Sink, E: Sink>(
     // 4 exactly where the file was read and some check of it fails.
     ensures image { WasRead result → ForAsked (map string_bytes words.now) (λ name asked. IfSome (F.file shelf.old name) (λ file. (result ≡ 4) ↔ ((cause : Cause) × HasNoImage file cause))) }
 
-    // 5 exactly where it has an image and the entry isn't code; or where it is, and nothing stands at the address that is named.
+    // 5 exactly where it has an image and the entry isn't code; or where it is, and nothing stands at the address that is named, or a run
+    // never comes to it.
     ensures absent { WasRead result → ForAsked (map string_bytes words.now) (λ name asked. IfSome (F.file shelf.old name) (λ file. (result ≡ 5) ↔ (HasNoEntry file asked ⊎ ((at : ℕ) × IsAbsent file asked at)))) }
 
     // 9 exactly where the code from the entry on of a file that was read isn't straight, and a slice is asked.

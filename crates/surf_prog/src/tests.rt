@@ -65,7 +65,6 @@ sum|slice a --at 0x1 --round 1|,,|2||surf: words
 sum|slice a --at 0x1 --round 0 --skip-sp|,,|2||surf: words
 sum|slice a --at 12 --round 0|,,|2||surf: words
 sum|values a --at 0x1 --round 0|,,|2||surf: words
-sum|trace a --at 0x08049000|,,|2||surf: words
 sum|trace a --extern puts|,,|2||surf: words
 sum|serve a s|,,|2||surf: words
 sum|nothing a|,,|2||surf: words
@@ -103,11 +102,18 @@ const TRACES: &str = "\
 sum|trace a|,,|0|trace 08049000/0 08049000/1 08049005/2 0804900a 0/3 0804900c 1 2/4 0804900e/end return 5 steps|
 sum|trace a --steps 2 --seed 7|,,|0|trace 08049000/0 08049000/1 08049005/end limit 2 steps|
 sum|trace a --entry 0x0804900e|,,|0|trace 0804900e/0 0804900e/end return 1 steps|
+sum|trace a --at 0x0804900c|,,|0|trace 08049000/0 08049000/1 08049005/2 0804900a 0/3 0804900c 1 2/4 0804900e/dynamic 0804900c occurrence 3/08049000/08049005/0804900a/0804900c/end return 5 steps|
+sum|trace a --at 0x0804900a --steps 3|,,|0|trace 08049000/0 08049000/1 08049005/2 0804900a 0/dynamic 0804900a occurrence 2/08049000/0804900a/end limit 3 steps|
+sum|trace a --at 0x08049001|,,|5||surf: absent 08049001
+sum|trace a --at 0x0804900a --steps 2|,,|5||surf: absent 0804900a
+sum @68 09 00 00 00 09 @84 B9 02 00 00 00 49 75 FD C3|trace a --at 0x08049005|,,|0|trace 08049000/0 08049000/1 08049005 0/2 08049006 1/3 08049005 1/4 08049006 3/5 08049008/dynamic 08049005 occurrence 3/08049000/08049005/end return 6 steps|
 sum|trace a --entry 0x08049100|,,|5||surf: absent entry
 sum @68 06 00 00 00 06 @84 A3 00 00 00 00 C3|trace a|,,|0|trace 08049000/end fault 0 steps|
 sum @68 01 00 00 00 01 @84 F4|trace a --extern puts:stop|,,|0|trace 08049000/0 08049000/end halt 1 steps|
 sum @68 03 00 00 00 03 @84 50 59 C3|trace a|,,|0|trace 08049000/0 08049000/1 08049001 0/2 08049002 1/end return 3 steps|
 sum @68 03 00 00 00 03 @84 50 59 C3|trace a --skip-sp|,,|0|trace 08049000/0 08049000/1 08049001 0/2 08049002/end return 3 steps|
+sum @68 03 00 00 00 03 @84 50 59 C3|trace a --at 0x08049002|,,|0|trace 08049000/0 08049000/1 08049001 0/2 08049002 1/dynamic 08049002 occurrence 2/08049000/08049001/08049002/end return 3 steps|
+sum @68 03 00 00 00 03 @84 50 59 C3|trace a --at 0x08049002 --skip-sp|,,|0|trace 08049000/0 08049000/1 08049001 0/2 08049002/dynamic 08049002 occurrence 2/08049002/end return 3 steps|
 sum|trace a|,3,|6|trace 08049000/0 08049000|surf: output";
 
 /// Puts a byte at a place of some bytes, or behind them.

@@ -1,12 +1,13 @@
 // The text of a run with the choices of a seed.
 ghost use Rattle.std.specs.Prelude.{◌≡◌, ◌<◌, ◌^◌, ◌++◌, if◌then◌else◌, Some, length, map, IfOk, OnOk};
-ghost use Rattle.std.specs.Fmt.{decimal};
 ghost use Rattle.std.specs.Str.{bytes_eq};
 ghost use Rattle.image_map.specs.Whole.{IsImage};
 ghost use Rattle.surf_prog.specs.Tracing as spec;
 
+use crate::dynamic::{Traced, dynamic_lines, push_number};
 use crate::words::RunOptions;
 use command_words::ExternKind;
+use dynamic_slices::depends_of;
 use ia32_run::{Finish, Occurrence, RunLog, trace};
 use image_map::{Extern, Image, Kind, Name, Settings};
 use item_list::Items;
@@ -182,12 +183,6 @@ fn finish_name<'a>(finish: Finish) -> &'a [u8]
     }
 }
 
-fn push_number(alloc: Global, text: &mut Vec<u8>, number: u32) -> Result<(), AllocError>
-    ensures { OnOk result (text.new.items ≡ text.old.items ++ decimal number) }
-{
-    text.extend_from_slice(number.to_string(alloc)?.as_bytes())
-}
-
 // Puts numbers, each after a space, behind a text.
 fn push_spaced(alloc: Global, text: &mut Vec<u8>, numbers: &[u32]) -> Result<(), AllocError>
     ensures { OnOk result (text.new.items ≡ text.old.items ++ spec.spaced numbers.now) }
@@ -199,17 +194,6 @@ fn push_spaced(alloc: Global, text: &mut Vec<u8>, numbers: &[u32]) -> Result<(),
         rest = after;
     }
     Ok(())
-}
-
-// The numbers of the steps on which one depends.
-fn depends_of(step: &Occurrence, skip_sp: bool) -> &[u32]
-    ensures { result.now ≡ spec.depends_of skip_sp step.now }
-{
-    if skip_sp {
-        step.depends_skip.as_slice()
-    } else {
-        step.depends.as_slice()
-    }
 }
 
 fn push_step(
@@ -258,32 +242,47 @@ fn push_end(alloc: Global, text: &mut Vec<u8>, log: &RunLog) -> Result<(), Alloc
     text.extend_from_slice(b" steps\n")
 }
 
-fn trace_text(alloc: Global, skip_sp: bool, place: u32, log: &RunLog) -> Result<Vec<u8>, AllocError>
+// The text of a run, with these lines before the last one.
+fn trace_text(
+    alloc: Global,
+    skip_sp: bool,
+    place: u32,
+    log: &RunLog,
+    between: &[u8],
+) -> Result<Vec<u8>, AllocError>
     requires { length log.now.steps < 2 ^ 32 }
-    ensures { IfOk result (λ text. text.items ≡ spec.trace_text skip_sp place log.now) }
+    ensures { IfOk result (λ text. text.items ≡ spec.trace_text skip_sp place log.now between.now) }
 {
     let mut text = Vec::new(alloc);
     text.extend_from_slice(b"trace ")?;
     text.extend_from_slice(&hex8(place))?;
     text.extend_from_slice(b"\n")?;
     push_steps(alloc, &mut text, skip_sp, log.steps.as_slice())?;
+    text.extend_from_slice(between)?;
     push_end(alloc, &mut text, log)?;
     Ok(text)
 }
 
-/// The text of a run of an image from a place on: at most so many steps, with the choices of a seed.
+/// The text of a run of an image from a place on: at most so many steps, with the choices of a seed. Where an address is named, the
+/// dynamic slice of its last step is told too, or that the run never comes to it.
 pub fn tracing(
     alloc: Global,
     image: &Image,
     place: u32,
     options: &RunOptions,
-) -> Result<Vec<u8>, AllocError>
+) -> Result<Traced, AllocError>
     requires { IsImage image.now }
-    ensures { IfOk result (λ text. spec.IsTracing image.now place options.now text.items) }
+    ensures { IfOk result (λ traced. spec.Tells image.now place options.now traced) }
 {
     let settings = settings_of(alloc, image, place, options.externs.as_slice())?;
     let count = 8 * (options.steps as usize + 2);
     let words = seed_words(alloc, count, options.seed)?;
     let log = trace(alloc, image, &settings, &words, options.steps)?;
-    trace_text(alloc, options.skip_sp, place, &log)
+    match dynamic_lines(alloc, log.steps.as_slice(), options.at, options.skip_sp)? {
+        Traced::Never(at) => Ok(Traced::Never(at)),
+        Traced::Text(between) => {
+            let text = trace_text(alloc, options.skip_sp, place, &log, &between)?;
+            Ok(Traced::Text(text))
+        }
+    }
 }

@@ -33,6 +33,8 @@ pub enum Task {
 /// How a program is run.
 #[derive(Drop)]
 pub struct RunOptions {
+    /// The address whose last step is sliced, if one is.
+    pub at: Option<u32>,
     /// Whether dependences by ESP are left out.
     pub skip_sp: bool,
     /// The greatest number of steps.
@@ -86,25 +88,20 @@ fn list_asked(image: Text, from: Option<u32>, options: Options) -> Request
     Request { name: image, task }
 }
 
-// Of traces there are those that ask for no dynamic slice.
-fn trace_asked(image: Text, at: Option<u32>, options: Options) -> Option<Request>
+fn trace_asked(image: Text, at: Option<u32>, options: Options) -> Request
     ensures { result ≡ trace_spec image at options }
 {
-    match at {
-        Some(_) => None,
-        None => {
-            let task = Task::Trace {
-                entry: options.entry,
-                options: RunOptions {
-                    skip_sp: options.skip_sp,
-                    steps: options.steps,
-                    seed: options.seed,
-                    externs: options.externs,
-                },
-            };
-            Some(Request { name: image, task })
-        }
-    }
+    let task = Task::Trace {
+        entry: options.entry,
+        options: RunOptions {
+            at,
+            skip_sp: options.skip_sp,
+            steps: options.steps,
+            seed: options.seed,
+            externs: options.externs,
+        },
+    };
+    Request { name: image, task }
 }
 
 // What a task and its options ask for, if there is such a task.
@@ -115,7 +112,7 @@ fn line_asked(line: CommandLine) -> Option<Request>
     match task {
         command_words::Task::Slice { image, at } => slice_asked(image, at, options),
         command_words::Task::List { image, at } => Some(list_asked(image, at, options)),
-        command_words::Task::Trace { image, at } => trace_asked(image, at, options),
+        command_words::Task::Trace { image, at } => Some(trace_asked(image, at, options)),
         _ => None,
     }
 }

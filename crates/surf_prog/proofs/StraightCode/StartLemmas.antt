@@ -10,9 +10,9 @@ use Rattle.image_map.specs.declared.region.Settings.{Settings}
 use Rattle.ia32_semantics.specs.State.{Bytes, State, esp, bytes_at, little_endian}
 use Rattle.ia32_semantics.specs.Outcome.{is_in_stack}
 use Rattle.ia32_semantics.specs.CallModel.{entry_activation}
-use Rattle.image_map.proofs.SegmentLaws.{known_there}
+use Rattle.image_map.proofs.SegmentLaws.{known_there, segments_below}
 use Rattle.surf_prog.specs.Straight.Runs.{ImagesStart}
-use Rattle.surf_prog.proofs.SegmentLaws.{image_end, segments_below}
+use Rattle.surf_prog.proofs.SegmentLaws.{image_end}
 
 -- a place for the entry's return slot
 abbrev slot : ℕ

@@ -1,4 +1,7 @@
-use Rattle.std.proofs.Common.{◌+◌, ◌*◌, ◌∙◌, List, ℕ, length, ap, arith}
+use Rattle.std.proofs.Common.{◌+◌, ◌*◌, ◌∙◌, List, ℕ, length, sym, ap, subst, arith}
+use Rattle.ia32_run.specs.declared.log.Occurrence.{Occurrence}
+use Rattle.dynamic_slices.specs.Slices.{DependOnEarlier}
+use Rattle.dynamic_slices.proofs.SliceLaws.{told_slices_are_dynamic}
 use Rattle.surf_prog.proofs.TracingLaws.{seeds_long, are_known, few_steps}
 use Rattle.surf_prog.proofs.tracing.tracing.Goals as goal
 
@@ -14,3 +17,15 @@ pub trace_text-requires : goal.trace_text-requires
 trace_text-requires c =
     let short = few_steps c.args.image.now c.in_ok-settings.settings c.deref.result.now c.args.options.now.steps c.in_ok-log.log c.in_ok-log.ensures in
     omega arith
+
+pub dynamic_lines-requires-clause-short : goal.dynamic_lines-requires-clause-short
+dynamic_lines-requires-clause-short c =
+    let short = few_steps c.args.image.now c.in_ok-settings.settings c.deref.result.now c.args.options.now.steps c.in_ok-log.log c.in_ok-log.ensures in
+    let long = ap (λ (steps : List Occurrence). length steps) c.as_slice-2.ensures in
+    omega arith
+
+pub dynamic_lines-requires-clause-earlier : goal.dynamic_lines-requires-clause-earlier
+dynamic_lines-requires-clause-earlier c =
+    let skip_sp = c.args.options.now.skip_sp in
+    let told = told_slices_are_dynamic c.args.image.now c.in_ok-settings.settings skip_sp c.in_ok-log.ensures.run c.in_ok-log.log.steps c.in_ok-log.ensures.tells in
+    subst (λ (steps : List Occurrence). DependOnEarlier skip_sp steps) (sym c.as_slice-2.ensures) told.earlier
