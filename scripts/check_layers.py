@@ -6,9 +6,8 @@ is broken, or a crate of the repository is used that crates.txt doesn't name."""
 
 import re
 import sys
-from pathlib import Path
 
-TOP = Path(__file__).resolve().parent.parent
+from crate_lists import TOP, named_crates, reached
 
 # (crates, by a pattern of their names; what none of them may reach; why)
 RULES = [
@@ -30,31 +29,11 @@ RULES = [
 OUTSIDE = re.compile(r'\buse std::(?:\{[^}]*\b)?(?:fs|env|net|process)\b|\bHostRuntime\b|\bstdout\(|\bstderr\(')
 
 
-def crates():
-    """The libraries that each crate names in crates.txt."""
-    named = {}
-    for line in (TOP / 'crates.txt').read_text(encoding='utf-8').splitlines():
-        head, colon, tail = line.split('#')[0].partition(':')
-        if colon:
-            named[head.split()[0]] = tail.split()
-    return named
-
-
-def reached(named, crate, seen=None):
-    """All libraries that a crate stands on, directly or through others."""
-    seen = set() if seen is None else seen
-    for library in named.get(crate, []):
-        if library not in seen:
-            seen.add(library)
-            reached(named, library, seen)
-    return seen
-
-
 def broken_rules(named):
     for crates_pattern, libraries_pattern, why in RULES:
         for crate in named:
             if re.fullmatch(crates_pattern, crate):
-                for library in sorted(reached(named, crate)):
+                for library in reached(named, named[crate]):
                     if re.fullmatch(libraries_pattern, library):
                         yield f'{crate} stands on {library}: {why}'
 
@@ -71,7 +50,7 @@ def used_libraries(crate):
 
 
 def main():
-    named = crates()
+    named = named_crates()
     faults = list(broken_rules(named))
     for crate in named:
         used, code = used_libraries(crate)

@@ -2,7 +2,8 @@
 
 Usage: compare_traces.py PROGRAM PEER [COUNT] [SEED]. It needs gcc with -m32. Each of COUNT executables (300) has some
 instructions in random order, among them loops of a few turns, calls of its own procedure and of externs of every kind, and stores into
-a segment and the stack; each is run with other options.
+a segment and the stack; each is run with other options, and again with `--at`: mostly with an address that the run comes to, else
+with any address of the code.
 """
 
 import random
@@ -86,34 +87,54 @@ def answer(program, path, options):
     return done.returncode, done.stdout, done.stderr
 
 
+def criterion(source, trace, code):
+    """An address for `--at`: one of the steps of a trace, or at times any one of the code."""
+    steps = [line.split()[1].decode() for line in trace.splitlines()[1:-1]]
+    if steps and source.random() < 0.9:
+        return f"0x{source.choice(steps)}"
+    return f"{CODE + source.randrange(len(code)):#x}"
+
+
+def first_difference(mine, other):
+    for one, two in zip(mine.splitlines(), other.splitlines()):
+        if one != two:
+            return f"  {one.decode()} | {two.decode()}"
+    return "  one ends before the other"
+
+
+def compare(program, peer, path, options, kept):
+    """Whether two programs answer alike, and what the first answers; where they don't, the file is kept."""
+    mine, other = answer(program, path, options), answer(peer, path, options)
+    if mine != other:
+        kept.write_bytes(path.read_bytes())
+        print(f"differs: {kept} {' '.join(options)}: {mine[0]} {other[0]}\n{first_difference(mine[1], other[1])}")
+    return mine == other, mine
+
+
 def main():
     program, peer = sys.argv[1:3]
     count = int(sys.argv[3]) if len(sys.argv) > 3 else 300
     source = random.Random(int(sys.argv[4]) if len(sys.argv) > 4 else 1)
     texts = [text_of(source, n) for n in range(count)]
-    same, endings = 0, {}
+    same, alike, absent, endings = 0, 0, 0, {}
     with tempfile.TemporaryDirectory() as name:
         folder = Path(name)
         for n, code in enumerate(assembled(folder, texts)):
             path = folder / "image"
             path.write_bytes(file_of(code, bytes(source.getrandbits(8) for _ in range(64))))
             options = ["--seed", str(source.getrandbits(32))] + source.choice(OPTIONS)
-            mine, other = answer(program, path, options), answer(peer, path, options)
+            agrees, mine = compare(program, peer, path, options, Path(f"/tmp/trace-{n}.elf"))
+            same += agrees
+            at = ["--at", criterion(source, mine[1], code)]
+            agrees, sliced = compare(program, peer, path, options + at, Path(f"/tmp/trace-at-{n}.elf"))
+            alike += agrees
+            absent += sliced[0] == 5
             last = mine[1].splitlines()[-1:]
             ending = last[0].split()[1].decode() if last else str(mine[0])
             endings[ending] = endings.get(ending, 0) + 1
-            if mine == other:
-                same += 1
-            else:
-                kept = Path(f"/tmp/trace-{n}.elf")
-                kept.write_bytes(path.read_bytes())
-                print(f"differs: {kept} {' '.join(options)}: {mine[0]} {other[0]}")
-                for one, two in zip(mine[1].splitlines(), other[1].splitlines()):
-                    if one != two:
-                        print(f"  {one.decode()} | {two.decode()}")
-                        break
     print(f"{same} of {count} traces agree; endings: " + ", ".join(f"{ending} {times}" for ending, times in sorted(endings.items())))
-    sys.exit(same != count)
+    print(f"{alike} of {count} traces with --at agree; in {absent} the run never comes to the address")
+    sys.exit(same != count or alike != count)
 
 
 if __name__ == "__main__":

@@ -6,14 +6,8 @@ libraries, built by LLVM, and run for each figure.
 
 usage: matched_speed.py [--times N] [--graphs N] [--keep FOLDER]   (the least of N runs, 3 unless said; FOLDER is made and kept)"""
 
-import argparse
-import os
-import shutil
-import subprocess
-import tempfile
-from pathlib import Path
+from speed_program import build, folder_for, least, run, words_of
 
-TOP = Path(__file__).resolve().parent.parent
 LIBRARIES = ['chops', 'control_walks', 'dep_graph', 'flow_graph', 'item_list', 'matched_calls', 'slicer']
 
 # a name; procedures, nodes of each, wide nodes, calls of each, and whether calls go round
@@ -26,44 +20,6 @@ SHAPES = {
 
 # So many calls may be pending in the search, which finds no longer walks.
 DEEP = 6
-
-
-def build(folder):
-    """A workspace with the libraries of the repository and the program, built."""
-    crates = folder / 'crates'
-    (crates / 'matched_speed' / 'src').mkdir(parents=True, exist_ok=True)
-    for library in LIBRARIES:
-        if not (crates / library).exists():
-            shutil.copytree(TOP / 'crates' / library, crates / library)
-    shutil.copy(TOP / 'scripts' / 'matched_speed.rt.txt', crates / 'matched_speed' / 'src' / 'main.rt')
-    named = [line for line in (TOP / 'crates.txt').read_text(encoding='utf-8').splitlines()
-             if line.split(':')[0] in LIBRARIES]
-    named.append('matched_speed: ' + ' '.join(LIBRARIES))
-    (folder / 'crates.txt').write_text('\n'.join(sorted(named)) + '\n', encoding='utf-8')
-    subprocess.run(['rt', 'run', '--', 'make', '1', '1', '0', '0', '0'], cwd=crates / 'matched_speed', check=True,
-                   stdout=subprocess.DEVNULL)
-    return crates / 'matched_speed' / 'out' / 'matched_speed'
-
-
-def run(program, words):
-    """What the program prints, its seconds of processor and its greatest memory."""
-    read, write = os.pipe()
-    child = os.fork()
-    if child == 0:
-        os.dup2(write, 1)
-        os.execv(program, [str(program), *map(str, words)])
-    os.close(write)
-    with os.fdopen(read) as told:
-        text = told.read().strip()
-    _, status, used = os.wait4(child, 0)
-    if status != 0:
-        raise SystemExit(f'{program} {words}: status {status}')
-    return text, used.ru_utime + used.ru_stime, used.ru_maxrss // 1024
-
-
-def least(program, words, times):
-    runs = [run(program, words) for _ in range(times)]
-    return runs[0][0], min(r[1] for r in runs), runs[0][2]
 
 
 class Graph:
@@ -169,15 +125,11 @@ def graphs(text):
 
 
 def main():
-    words = argparse.ArgumentParser(description=__doc__, formatter_class=argparse.RawDescriptionHelpFormatter)
-    words.add_argument('--times', type=int, default=3)
+    words = words_of(__doc__)
     words.add_argument('--graphs', type=int, default=1000)
-    words.add_argument('--keep', type=Path)
     asked = words.parse_args()
-    folder = asked.keep or Path(tempfile.mkdtemp(prefix='matched_speed'))
-    folder.mkdir(parents=True, exist_ok=True)
-    try:
-        program = build(folder)
+    with folder_for('matched_speed', asked.keep) as folder:
+        program = build(folder, 'matched_speed', LIBRARIES, ['make', '1', '1', '0', '0', '0'])
         text, _, _ = run(program, ['print', asked.graphs, 0, 0, 0, 0])
         made = list(graphs(text))
         edges = sum(len(graph.pairs[word]) for graph in made for word in ('ordinary', 'sp', 'control'))
@@ -189,9 +141,6 @@ def main():
             for task in ('edges', 'matched'):
                 text, seconds, memory = least(program, [task, *shape], asked.times)
                 print(f'| {name} | {task} | {text} | {max(0, seconds - least_made):.2f} | {memory} |', flush=True)
-    finally:
-        if not asked.keep:
-            shutil.rmtree(folder)
 
 
 if __name__ == '__main__':

@@ -11,6 +11,7 @@ use Rattle.flow_graph.proofs.GraphLaws.{Has-within}
 use Rattle.chops.specs.Following.{IsAfter}
 use Rattle.chops.specs.Paths.{ComesTo, start_of, ComesIn}
 use Rattle.chops.specs.Counts.{first_counts, AreWays, IsShort, AreShort, Lowers, AreFewest}
+use Rattle.item_list.proofs.TruthLaws.{true_not}
 
 -- ---- the start
 
@@ -105,9 +106,6 @@ lowers_one arrows old new from to changed among source target stays lowers =
     (cases_Bool changed)
 
 -- ---- a pass
-
-true_not : (b : Bool) → b ≡ true → b ≢ false
-true_not b is other = absurd (cc)
 
 no_more : (arrows : List (ℕ × ℕ)) (old new : List ℕ) (changed : Bool) → Lowers arrows old new changed → sum_by (λ count. count) new ≤ sum_by (λ count. count) old
 no_more arrows old new changed l =

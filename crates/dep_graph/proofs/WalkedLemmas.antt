@@ -8,16 +8,14 @@ use Rattle.flow_graph.specs.FlowGraph.{MayUse, MayDefine, MustDefine, esp_place}
 use Rattle.flow_graph.specs.Walks.{IsOn}
 use Rattle.flow_graph.specs.Walks as walks
 use Rattle.flow_graph.proofs.GraphLaws.{Has-from, Has-at, Has-within, slice_get-at}
-use Rattle.flow_graph.proofs.WalkLaws.{inner-within, all_both, not_true}
+use Rattle.flow_graph.proofs.WalkLaws.{inner-within, all_both}
 use Rattle.dep_graph.specs.DepGraph.{DataEdge}
 use Rattle.dep_graph.specs.Edges.{ListsPairs}
 use Rattle.dep_graph.specs.Plain.{IsKind, KindEdge}
 use Rattle.dep_graph.proofs.ListingLemmas.{lists-like}
+use Rattle.item_list.proofs.TruthLaws.{not_says}
 
 -- ---- the nodes that don't define the place for certain
-
-not-true : (b : Bool) → IsTrue (not b) ↔ (¬ IsTrue b)
-not-true b = (λ is yes. absurd (cc), λ no. not_true b no)
 
 -- the first i nodes are marked unless they must define the place
 pub record Free (g : List FlowNode) (place : ℕ) (free : List Bool) (i : ℕ) : Type 0 where
@@ -34,8 +32,8 @@ free-more g place free i node must within room read says before = record {
       let is = slice_get-at g i node within read in
       subst (λ n. IsOn (set free i (not must)) n ↔ (¬ MustDefine g place n)) (sym same)
       (subst (λ b. IsTrue b ↔ (¬ MustDefine g place i)) (sym (get_or-set_same free i (not must) false room)) (
-        λ on defines. (not-true must).0 on (says.1 (Has-at g i node (λ n. Contains n.must_def place) is defines)),
-        λ none. (not-true must).1 (λ on. none (Has-from g i node (λ n. Contains n.must_def place) is (says.0 on))),
+        λ on defines. (not_says must).0 on (says.1 (Has-at g i node (λ n. Contains n.must_def place) is defines)),
+        λ none. (not_says must).1 (λ on. none (Has-from g i node (λ n. Contains n.must_def place) is (says.0 on))),
       )))
       (λ other. subst (λ b. IsTrue b ↔ (¬ MustDefine g place m)) (sym (get_or-set_other free i m (not must) false other)) (before.marks m (let off : m ≢ i = other in omega (arith, low, off))))
       (cases_eq m i);

@@ -10,7 +10,6 @@ use Rattle.flow_graph.specs.Rows.{IsBit, HasBit}
 use Rattle.flow_graph.specs.Walks.{IsOn}
 use Rattle.flow_graph.proofs.BitLemmas.{IsBit-zero}
 use Rattle.flow_graph.proofs.GraphLaws.{Has-at, Has-from, Has-within, slice_get-at}
-use Rattle.flow_graph.proofs.WalkLaws.{not_true}
 use Rattle.dep_graph.specs.Edges.{Adds, IsUsed, ListsPairs}
 use Rattle.dep_graph.proofs.ListingLemmas.{lists-like}
 use Rattle.dep_graph.proofs.PairLemmas.{adds-then, adds-like}
@@ -24,6 +23,7 @@ use Rattle.matched_calls.specs.Searches.{IsWide, IsFrom}
 use Rattle.matched_calls.specs.Places.{KeepsPlaces, IsChunk, MatchedBy}
 use Rattle.matched_calls.proofs.SummaryLemmas.{back_like, bit_within, zero_words}
 use Rattle.matched_calls.proofs.SearchLemmas.{matches_like}
+use Rattle.item_list.proofs.TruthLaws.{not_says}
 
 -- ---- words
 
@@ -34,9 +34,6 @@ pub record Keeping (node : FlowNode) (places : List ℕ) (i word : ℕ) : Type 0
 
 pub keeping_none : (node : FlowNode) (places : List ℕ) → Keeping node places 0 0
 keeping_none node places = record { bits = λ k never. absurd (omega (arith, never)); none = λ k past bit. IsBit-zero k bit }
-
-not_says : (b : Bool) → IsTrue (not b) ↔ (¬ IsTrue b)
-not_says b = (λ is on. absurd (cc), λ off. not_true b off)
 
 pub keeping_more : (node : FlowNode) (places : List ℕ) (i word new place : ℕ) (must : Bool) → place ≡ get_or places i 0 → IsTrue must ↔ Contains node.must_def place → ((k : ℕ) → IsBit new k ↔ (IsBit word k ⊎ (IsTrue (not must) × (k ≡ i)))) → Keeping node places i word → Keeping node places (i + 1) new
 keeping_more node places i word new place must read says sets before = record {

@@ -1,6 +1,6 @@
 -- Back over edges and control that are handed in.
-use Rattle.std.proofs.Common.{◌≡◌, ◌⊎◌, inl, inr, ⊎_elim, ℕ, ◌<◌, ◌≤◌, Bool, List, length, get_or, sym, subst, arith}
-use Rattle.std.specs.Prelude.{◌↔◌, All, Contains}
+use Rattle.std.proofs.Common.{◌≡◌, ◌⊎◌, inl, inr, ⊎_elim, ℕ, ◌<◌, ◌≤◌, Bool, List, length, sym, subst}
+use Rattle.std.specs.Prelude.{◌↔◌, Contains}
 use Rattle.flow_graph.specs.declared.graph.FlowNode.{FlowNode}
 use Rattle.flow_graph.specs.FlowGraph.{IsAt}
 use Rattle.flow_graph.specs.Marked.Marked.{seed}
@@ -40,10 +40,6 @@ met_slice Edge control nodes g at first met same begins grows closed n = (
       (λ m stands. grows-has (IsBefore Edge control) first met m grows ((begins m).1 (subst (λ (ns : List FlowNode). IsAt ns at m) (sym same) stands)))
       (λ a b goes has. closed a b goes has) found,
 )
-
--- the first numbers of pairs are within room for the nodes
-pub room_of : (g : List FlowNode) (pairs : List (ℕ × ℕ)) (size : ℕ) → AreNodes g pairs → length g ≤ size → All (λ p. p.0 < size) pairs
-room_of g pairs size nodes room k d within = let both = nodes k d within in let first : (get_or pairs k d).0 < length g = both.0 in omega (arith, first, room)
 
 -- a step goes to a node
 pub goes_within : (g : List FlowNode) (ordinary sp control : List (ℕ × ℕ)) (skip_sp : Bool) → HasPairs g ordinary sp control → (n m : ℕ) → (ListedEdge ordinary sp skip_sp m n ⊎ Contains control (m, n)) → m < length g

@@ -20,6 +20,7 @@ use Rattle.matched_calls.specs.Phases.{IsCall, IsReturn, Inside, ComesBack}
 use Rattle.matched_calls.specs.Phases.Inside.{here, along, over}
 use Rattle.matched_calls.specs.Extended.{pair_of, IsPlan}
 use Rattle.matched_calls.specs.Summaries.{IsExit, IsSeated, KeepsBit, ReachesExit, IsTight, IsSound, IsSummary, Raises}
+use Rattle.item_list.proofs.TruthLaws.{true_not}
 
 -- ---- facts of other words
 
@@ -196,9 +197,6 @@ raises_one g kinds kept j word more len low is other old_fits more_fits back =
     }
 
 -- ---- one after the other
-
-true_not : (b : Bool) → b ≡ true → b ≢ false
-true_not b is other = absurd (cc)
 
 pub no_more : (g : List FlowNode) (kinds : StepKinds) (old new : List ℕ) (changed : Bool) → Raises g kinds old new changed → room new ≤ room old
 no_more g kinds old new changed r =

@@ -56,7 +56,7 @@ and_of-natural (pos x) (pos y) p q f g =
 and_of-natural (pos x) (negsuc k) p q f g = absurd (omega (arith, ints))
 and_of-natural (negsuc k) w p q f g = absurd (omega (arith, ints))
 
-and_of-fits : (v w : ℤ) → FitsSigned w32 v → FitsSigned w32 (and_of v w)
+pub and_of-fits : (v w : ℤ) → FitsSigned w32 v → FitsSigned w32 (and_of v w)
 unfolding and_of
 and_of-fits v w f = let less = and_le_l (word v) (word w) in let fits = word-lt v f in number_fits (bit_and (word v) (word w)) (omega arith)
 
