@@ -1,5 +1,5 @@
 -- The order of nodes.
-use Rattle.std.proofs.Common.{◌≡◌, ℕ, Bool, true, false, cond, nat_lt, refl, ap, sym, subst, ◌∙◌, arith, eq-eqb}
+use Rattle.std.proofs.Common.{◌≡◌, ℕ, Bool, true, false, cond, reverse, nat_lt, refl, ap, sym, subst, ◌∙◌, arith, eq-eqb}
 use Rattle.std.specs.Prelude.{◌==◌}
 use Rattle.std.specs.Cmp.{IsTotalOrder, nat_cmp_total, on_total, then_total, tied_itself}
 use Rattle.std.specs.Cmp.Lexicographic.{nat_list_cmp_total}
@@ -12,7 +12,7 @@ use Rattle.call_strings.specs.Nodes.{place_cmp, node_cmp, node_before}
 pub node_total : IsTotalOrder node_cmp
 unfolding node_cmp
 node_total =
-    then_total (on_total (λ n. n.context.proc) nat_cmp_total) (then_total (on_total (λ n. n.context.sites) nat_list_cmp_total) (on_total (λ n. n.at) nat_cmp_total))
+    then_total (on_total (λ n. n.context.proc) nat_cmp_total) (then_total (on_total (λ n. reverse n.context.sites) nat_list_cmp_total) (on_total (λ n. n.at) nat_cmp_total))
 
 pub before_in_one : (a b : Node) → a.context.proc ≡ b.context.proc → is_lt (place_cmp a b) ≡ node_before a b
 unfolding node_cmp

@@ -1,5 +1,5 @@
 -- Places at which an analysis keeps states apart: a procedure, the newest call sites that led to it, and an address. The project's own.
-use Rattle.std.specs.Prelude.{ℕ, ◌∷◌, ◌++◌, [], List, take, Bool, if◌then◌else◌, nat_eq}
+use Rattle.std.specs.Prelude.{ℕ, ◌∷◌, ◌++◌, [], List, take, reverse, Bool, if◌then◌else◌, nat_eq}
 use Rattle.std.specs.declared.cmp.Ordering.{Ordering}
 use Rattle.std.specs.Ordering.{nat_cmp, on, then_cmp, is_lt}
 use Rattle.std.specs.Cmp.Lexicographic.{pointwise, slice_cmp}
@@ -22,10 +22,10 @@ same_node = on numbers_of (pointwise nat_eq)
 abbrev pub with_node : List Node → Node → List Node
 with_node nodes n = (if list_any (same_node n) nodes then nodes else nodes ++ n ∷ [])
 
--- -- The order of nodes: by procedure, then by sites, then by address
+-- -- The order of nodes: by procedure, then by sites from the oldest on, then by address
 
 abbrev pub place_cmp : Node → Node → Ordering
-place_cmp a b = then_cmp (on (λ n. n.context.sites) (slice_cmp nat_cmp)) (on (λ n. n.at) nat_cmp) a b
+place_cmp a b = then_cmp (on (λ n. reverse n.context.sites) (slice_cmp nat_cmp)) (on (λ n. n.at) nat_cmp) a b
 
 unfoldable pub node_cmp : Node → Node → Ordering
 node_cmp a b = then_cmp (on (λ n. n.context.proc) nat_cmp) place_cmp a b

@@ -1,9 +1,9 @@
 //! The calls that led to a place.
-ghost use Rattle.std.specs.Prelude.{◌≡◌, ◌∷◌, ◌++◌, take, IfOk};
+ghost use Rattle.std.specs.Prelude.{◌≡◌, ◌∷◌, ◌++◌, take, reverse, IfOk};
 ghost use Rattle.std.specs.Cmp.{on_equiv, partial_equiv_from_equiv};
-ghost use Rattle.std.specs.Cmp.Lexicographic.{nat_list_eq_equiv};
+ghost use Rattle.std.specs.Cmp.Lexicographic.{nat_list_eq_equiv, slice_cmp};
 ghost use Rattle.std.specs.Hash as fed;
-ghost use Rattle.std.specs.Ordering.{is_lt};
+ghost use Rattle.std.specs.Ordering.{is_lt, nat_cmp};
 ghost use Rattle.call_strings.specs.Nodes.{pushed, same_node, numbers_of, place_cmp, node_before};
 ghost use Rattle.call_strings.specs.NodeKeys.{same_hash};
 
@@ -46,6 +46,13 @@ impl Context {
     }
 }
 
+// Which of two lists of sites, the newest first, stands before the other, read from the oldest on.
+fn compared_from_oldest(one: &[u32], other: &[u32]) -> Ordering
+    ensures { result ≡ slice_cmp nat_cmp (reverse one.now) (reverse other.now) }
+{
+    one.iter().rev().cmp(other.iter().rev())
+}
+
 /// A place of a program: a context and the address of an instruction.
 #[derive(Debug, Drop)]
 pub struct Node {
@@ -70,19 +77,17 @@ impl Node {
     fn is_place_before(&self, other: &Node) -> bool
         ensures { result ≡ is_lt (place_cmp self.now other.now) }
     {
-        match self
-            .context
-            .sites
-            .as_slice()
-            .cmp(other.context.sites.as_slice())
-        {
+        match compared_from_oldest(
+            self.context.sites.as_slice(),
+            other.context.sites.as_slice(),
+        ) {
             Ordering::Less => true,
             Ordering::Equal => self.at < other.at,
             Ordering::Greater => false,
         }
     }
 
-    /// Whether this node stands before another: by procedure, then by sites, then by address.
+    /// Whether this node stands before another: by procedure, then by sites from the oldest on, then by address.
     pub fn is_before(&self, other: &Node) -> bool
         ensures { result ≡ node_before self.now other.now }
     {

@@ -1,6 +1,7 @@
 -- What the sweeps ask of the order of nodes.
-use Rattle.std.proofs.Common.{◌≡◌, ℕ, Bool, true, false, List, refl, sym, ◌∙◌}
+use Rattle.std.proofs.Common.{◌≡◌, ℕ, Bool, true, false, List, reverse, refl, sym, ap, ◌∙◌}
 use Rattle.std.proofs.lemmas.Bool.{true≢false}
+use Rattle.std.proofs.lemmas.List.{reverse-reverse}
 use Rattle.std.specs.Cmp.Lexicographic.{slice_cmp, same_text, texts_ties}
 use Rattle.std.specs.Ordering.{is_eq, nat_cmp}
 use Rattle.call_strings.specs.declared.context.Node.{Node}
@@ -16,9 +17,9 @@ pub node_equal : (a b : Node) → is_eq (node_cmp a b) ≡ true → a ≡ b
 unfolding node_cmp
 node_equal a b h =
     let outer = both_tied (nat_cmp a.context.proc b.context.proc) (place_cmp a b) h in
-    let inner = both_tied (slice_cmp nat_cmp a.context.sites b.context.sites) (nat_cmp a.at b.at) outer.1 in
+    let inner = both_tied (slice_cmp nat_cmp (reverse a.context.sites) (reverse b.context.sites)) (nat_cmp a.at b.at) outer.1 in
     let proc : a.context.proc ≡ b.context.proc = number_equal a.context.proc b.context.proc outer.0 in
-    let sites : a.context.sites ≡ b.context.sites = same_sites a.context.sites b.context.sites inner.0 in
+    let sites : a.context.sites ≡ b.context.sites = sym (reverse-reverse a.context.sites) ∙ ap reverse (same_sites (reverse a.context.sites) (reverse b.context.sites) inner.0) ∙ reverse-reverse b.context.sites in
     let at : a.at ≡ b.at = number_equal a.at b.at inner.1 in
     λ i. record { context = record { proc = proc i; sites = sites i }; at = at i }
 
