@@ -2,4 +2,6 @@ pub mod OrderedLemmas
 pub mod OneLemmas
 pub mod EndLemmas
 pub mod RoundLemmas
+pub mod SweepSizes
+pub mod SizeLemmas
 pub mod RoundTests

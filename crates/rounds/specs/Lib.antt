@@ -1,3 +1,4 @@
 pub mod Next
 pub mod Same
 pub mod Rounds
+pub mod Tags

@@ -1,5 +1,5 @@
 //! Laws of the definitions.
-ghost use Rattle.std.specs.Prelude.{◌≡◌, ℕ, List};
+ghost use Rattle.std.specs.Prelude.{◌≡◌, ◌≤◌, ℕ, List, length};
 ghost use Rattle.image_map.specs.declared.image.Image.{Image};
 ghost use Rattle.image_map.specs.declared.region.Settings.{Settings};
 ghost use Rattle.image_map.specs.declared.image.Segment.{Segment};
@@ -28,4 +28,10 @@ pub fn numbers_settle_rounds()
     ensures warnings { (image : Image) (settings : Settings) (r q : Round) → IsRound image settings r → IsRound image settings q → r.number ≡ q.number → r.lane ≡ q.lane → r.warnings.items ≡ q.warnings.items }
     ensures flow { (image : Image) (settings : Settings) (r q : Round) → IsRound image settings r → IsRound image settings q → r.number ≡ q.number → r.lane ≡ q.lane → r.graph.flow.nodes ≡ q.graph.flow.nodes }
     ensures last { (image : Image) (settings : Settings) (r q : Round) → IsRound image settings r → IsRound image settings q → r.number ≡ q.number → r.lane ≡ q.lane → r.last ≡ q.last }
+{}
+
+/// A round has at most 4,096 nodes, and at most 32,770 warnings: 8 at a node and 2 of the whole map.
+pub fn rounds_are_small()
+    ensures nodes { (image : Image) (settings : Settings) (r : Round) → IsRound image settings r → length r.graph.flow.nodes ≤ 4096 }
+    ensures warnings { (image : Image) (settings : Settings) (r : Round) → IsRound image settings r → length r.warnings.items ≤ 32770 }
 {}

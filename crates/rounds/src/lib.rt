@@ -5,9 +5,11 @@
 pub mod laws;
 mod making;
 mod next_cuts;
+mod numbered;
 mod placing;
 mod round;
 mod same;
 
 pub use making::{first, next};
+pub use numbered::RoundTag;
 pub use round::Round;
