@@ -1,9 +1,10 @@
 -- Lists and members that are sent to a serializer.
-use Rattle.std.proofs.Common.{◌≡◌, ℕ, suc, List, [], ◌∷◌, length, reverse, codes, Bool, false, ◌||◌, Some, refl, ap, sym, ◌∙◌, subst, arith}
+use Rattle.std.proofs.Common.{◌≡◌, ℕ, suc, List, [], ◌∷◌, length, reverse, codes, false, Some, refl, ap, sym, ◌∙◌, subst, arith}
 use Rattle.serde.specs.Event.{Log, Logs, seq_begins, seq_ends, map_begins, map_ends}
 use Rattle.serde_json.specs.Data.{Data}
 use Rattle.serde_json.specs.Events.{items_len, SendsValue, SendsItems}
 use Rattle.serde_json.specs.Written.{has_float, items_have_float}
+use Rattle.std.proofs.lemmas.Bool.{or_from}
 use Rattle.call_strings.specs.declared.context.Node.{Node}
 use Rattle.rounds.specs.declared.round.Round.{Round}
 use Rattle.round_texts.specs.Graph.{items_of, list_data, number_data, pair_data, node_data, graph_data, SendsMember}
@@ -43,18 +44,15 @@ graph_sent r pairs old first control edges lane nodes round sp end begun one two
 
 -- -- No floats
 
-either : (s t : Bool) → s ≡ false → t ≡ false → (s || t) ≡ false
-either s t p q = ap (λ x. x || t) p ∙ q
-
 no_float : {A : Type 0} (f : A → Data) → ((x : A) → has_float (f x) ≡ false) → (xs : List A) → items_have_float (items_of f xs) ≡ false
 no_float f each [] = refl
-no_float f each (x ∷ xs) = either (has_float (f x)) (items_have_float (items_of f xs)) (each x) (no_float f each xs)
+no_float f each (x ∷ xs) = or_from (has_float (f x)) (items_have_float (items_of f xs)) (each x) (no_float f each xs)
 
 node_has_none : (n : Node) → has_float (node_data n) ≡ false
-node_has_none n = either (items_have_float (items_of number_data (reverse n.context.sites))) false (no_float number_data (λ _. refl) (reverse n.context.sites)) refl
+node_has_none n = or_from (items_have_float (items_of number_data (reverse n.context.sites))) false (no_float number_data (λ _. refl) (reverse n.context.sites)) refl
 
 -- a graph holds no float
 pub graph_has_none : (r : Round) (pairs : List (ℕ × ℕ)) → has_float (graph_data r pairs) ≡ false
 graph_has_none r pairs =
     let pairs_have : (xs : List (ℕ × ℕ)) → items_have_float (items_of pair_data xs) ≡ false = no_float pair_data (λ _. refl) in
-    either _ _ (pairs_have pairs) (either _ _ (pairs_have r.graph.edges.ordinary) (either _ _ (no_float node_data node_has_none r.states.nodes.items) (either _ _ (pairs_have r.graph.edges.sp) refl)))
+    or_from _ _ (pairs_have pairs) (or_from _ _ (pairs_have r.graph.edges.ordinary) (or_from _ _ (no_float node_data node_has_none r.states.nodes.items) (or_from _ _ (pairs_have r.graph.edges.sp) refl)))

@@ -1,10 +1,10 @@
 -- Pairs of numbers in order.
-use Rattle.std.proofs.Common.{◌≡◌, ◌⊎◌, ◌↔◌, inl, inr, ℕ, suc, zero, ◌<◌, Bool, true, false, ◌&&◌, List, [], ◌∷◌, length, refl, sym, subst, arith, Contains}
+use Rattle.std.proofs.Common.{◌≡◌, ◌⊎◌, ◌↔◌, inl, inr, ℕ, suc, zero, ◌<◌, Bool, true, ◌&&◌, List, [], ◌∷◌, length, sym, subst, arith, Contains}
 use Rattle.std.specs.Prelude.{slice_index_or, nat_eq, nat_lt, ◌==◌, cond}
 use Rattle.std.specs.declared.cmp.Ordering.{Ordering}
 use Rattle.std.specs.declared.cmp.Ordering.TheVariants.{Less, Equal, Greater}
 use Rattle.std.specs.Ordering.{nat_cmp, ordering_then, eq_by_cmp}
-use Rattle.std.specs.Cmp.{IsTotalOrder, IsEquivalence, both_tied, unsigned_ties, nat_eq_equiv}
+use Rattle.std.specs.Cmp.{IsTotalOrder, IsEquivalence, both_tied, unsigned_ties, nat_eq_equiv, first_so, second_so}
 use Rattle.std.proofs.lemmas.Cmp.{then_total, on_total, nat_cmp_total, and_equiv, on_equiv}
 use Rattle.std.specs.List.{dedup}
 use Rattle.std.specs.List.Sorted.{IsSorted, IsStrictlySortedBy, IsPermutation}
@@ -34,16 +34,10 @@ ties x y = both_tied _ _ (nat_cmp x.0 y.0) (nat_cmp x.1 y.1) (unsigned_ties x.0 
 equivalence : IsEquivalence pair_eq
 equivalence = and_equiv (on_equiv (λ (p : Pair). p.0) nat_eq_equiv) (on_equiv (λ (p : Pair). p.1) nat_eq_equiv)
 
-both : (s t : Bool) → (s && t) ≡ true → (s ≡ true) × (t ≡ true)
-both true true e = (refl, refl)
-both true false e = absurd cc
-both false t e = absurd cc
-
 same : (x y : Pair) → pair_eq x y ≡ true → x ≡ y
 same x y e =
-    let tests = both (nat_eq x.0 y.0) (nat_eq x.1 y.1) e in
-    let p = eqb-true x.0 y.0 tests.0 in
-    let q = eqb-true x.1 y.1 tests.1 in
+    let p = eqb-true x.0 y.0 (first_so (nat_eq x.0 y.0) (nat_eq x.1 y.1) e) in
+    let q = eqb-true x.1 y.1 (second_so (nat_eq x.0 y.0) (nat_eq x.1 y.1) e) in
     λ i. (p i, q i)
 
 less_is : (a b : ℕ) → nat_cmp a b ≡ Less → a < b

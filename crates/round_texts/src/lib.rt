@@ -19,3 +19,6 @@ pub use push::{push_number, push_signed};
 pub use readings::reading;
 pub use values::values_text;
 pub use warnings::warnings_text;
+
+#[cfg(test)]
+mod tests;
