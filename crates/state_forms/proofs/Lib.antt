@@ -1,0 +1,12 @@
+pub mod SweepForms
+pub mod AlignForms
+pub mod EffectForms
+pub mod CallForms
+pub mod StartForms
+pub mod OperandForms
+pub mod QuotientForms
+pub mod RowForms
+pub mod JoinForms
+pub mod BranchForms
+pub mod StepForms
+pub mod MapForms

@@ -1,0 +1,4 @@
+pub mod Kept
+pub mod Images
+pub mod Formed
+pub mod Laws
