@@ -1,0 +1,7 @@
+mod AdvanceLemmas
+mod GrowLemmas
+mod LaneLemmas
+mod NumberLemmas
+mod PinnedLemmas
+mod ReplyLemmas
+mod StepLemmas

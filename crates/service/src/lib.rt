@@ -1,0 +1,15 @@
+//! Sessions and refiners over published rounds of one program.
+#![tactic(auto)]
+
+mod advance;
+mod gate;
+mod lanes;
+mod page;
+mod session;
+mod shop;
+mod short;
+mod step;
+
+pub use gate::{Gate, OpenGate, Place, Point};
+pub use session::{Reply, Session};
+pub use shop::{Seat, Shop};
