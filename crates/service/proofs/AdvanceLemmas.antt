@@ -1,5 +1,5 @@
 -- What a seat says after trying to publish a round.
-use Rattle.std.proofs.Common.{◌≡◌, ℕ, ◌+◌, ◌<◌, Bool, false, List, [], ◌∷◌, ◌++◌, refl, sym, subst}
+use Rattle.std.proofs.Common.{◌≡◌, ℕ, ◌+◌, ◌<◌, Bool, false, Some, List, [], ◌∷◌, ◌++◌, refl, sym, subst}
 use Rattle.round_core.specs.declared.word.Word.{Word}
 use Rattle.round_slots.specs.declared.store.ClaimRefused.{ClaimRefused}
 use Rattle.round_slots.specs.View.{unmarked, next_word, gave_up, published}
@@ -10,8 +10,8 @@ use Rattle.round_slots.proofs.ViewLaws.{no_turn_after}
 use Rattle.rounds.specs.declared.numbered.RoundTag.{RoundTag}
 use Rattle.rounds.specs.Tags.{HasNumber}
 use Rattle.service.specs.declared.shop.Shop.{Shop}
-use Rattle.service.specs.Seats.{key_of, SitsIn, IsReady}
-use Rattle.service.specs.Steps.{grown, Grows, LooksOn, Publishes}
+use Rattle.service.specs.Seats.{key_of, store_lane, SitsIn, IsReady}
+use Rattle.service.specs.Steps.{grown, Grows, LooksOn, Publishes, Watches}
 use Rattle.service.proofs.GrowLemmas.{grows_pin, looks_refused, looks_gave_up, publishes_next}
 
 module _ (shop : Shop) (old : Place RoundTag) (lane : ℕ) (s : SitsIn shop old) (none : HasNoTurn (key_of shop) old) (inside : lane < (key_of shop).lanes) where
@@ -26,6 +26,13 @@ module _ (shop : Shop) (old : Place RoundTag) (lane : ℕ) (s : SitsIn shop old)
   pub ready_pinned : (new out : Place RoundTag) (pinned : Bool) (round : ℕ) → Pins (key_of shop) old new lane round → SitsIn shop new → out ≡ new → pinned ≡ false → IsReady shop out pinned
   ready_pinned new out pinned round p t same free =
       ready_grown new out pinned (p.before ++ p.last ∷ []) [] (subst (λ q. Grows old q lane (p.before ++ p.last ∷ []) []) (sym same) (grows_pin shop old new lane round (none lane inside) p)) t same free
+
+  pub watched : (sites : ℕ) (new out : Place RoundTag) (round : ℕ) → store_lane shop sites ≡ Some lane → Pins (key_of shop) old new lane round → out ≡ new → Watches shop sites old out
+  watched sites new out round is p same = record {
+    lane = lane;
+    is_lane = is;
+    looks = (p.before ++ p.last ∷ [], subst (λ q. Grows old q lane (p.before ++ p.last ∷ []) []) (sym same) (grows_pin shop old new lane round (none lane inside) p));
+  }
 
   pub advance_refused : (new out : Place RoundTag) (n : ℕ) (cause : ClaimRefused) → Refuses (key_of shop) old new lane n cause → out ≡ new → LooksOn old out lane
   advance_refused new out n cause r same = subst (λ p. LooksOn old p lane) (sym same) (looks_refused shop old new lane n cause s inside (none lane inside) r)

@@ -3,5 +3,6 @@ mod GrowLemmas
 mod LaneLemmas
 mod NumberLemmas
 mod PinnedLemmas
+mod ReadingLemmas
 mod ReplyLemmas
 mod StepLemmas

@@ -5,3 +5,5 @@ pub mod Shown
 pub mod Steps
 pub mod Advances
 pub mod Ends
+pub mod Requests
+pub mod Answers

@@ -2,6 +2,7 @@
 #![tactic(auto)]
 
 mod advance;
+mod answer;
 mod gate;
 mod lanes;
 mod page;

@@ -1,15 +1,18 @@
 //! Room for a reply.
 
-ghost use Rattle.std.specs.Prelude.{◌≡◌, ◌≤◌, ◌<◌, ◌^◌, [], length, IfOk};
+ghost use Rattle.std.specs.Prelude.{◌≡◌, ℕ, ◌≤◌, ◌<◌, ◌^◌, List, [], length, IfOk, OnOk};
 ghost use Rattle.dep_graph.specs.Edges.{HasEdges};
+ghost use Rattle.access_facts.specs.Rows.{AreInside};
 ghost use Rattle.service.specs.Replies.{IsSliceReply};
+ghost use Rattle.service.specs.Requests.{IsReading, reading_text};
 ghost use Rattle.service.specs.Shown.{shown_text, IsWithin};
 
 use crate::short::{Line, absent};
 use dep_graph::Edges;
 use flow_graph::{FlowGraph, FlowNode};
 use item_list::Items;
-use requests::write_slice;
+use requests::{Request, write_slice};
+use round_texts::reading;
 use rounds::Round;
 use slicer::{Absent, RoundGraph, Scratch, backward};
 use std::alloc::{AllocError, Global};
@@ -102,6 +105,20 @@ fn write_reply(
     }
 }
 
+// Tells what the round holds, or that the address is absent.
+fn read(alloc: Global, round: &Round, request: &Request) -> Result<Shown, AllocError>
+    requires reading { IsReading request.now }
+    requires inside { AreInside round.now.cells.image }
+    ensures text { IfOk result (λ shown. (bytes : List ℕ) → shown_text bytes shown ≡ reading_text round.now request.now) }
+    ensures within { IfOk result IsWithin }
+{
+    match (reading(alloc, round, request)?, request) {
+        (Some(text), _) => Ok(Shown::Whole(text)),
+        (None, Request::Values(at)) => { Ok(Shown::Short(absent(*at, round.number, round.lane))) }
+        _ => unreachable!(),
+    }
+}
+
 impl Page {
     /// An empty text, and room for the slices of every round.
     ///
@@ -140,17 +157,28 @@ impl Page {
         self.shown = write_reply(&mut self.scratch, &mut self.bytes, round, at, skip_sp);
     }
 
+    /// Writes the reply that tells what the round holds.
+    ///
+    /// # Errors
+    /// Where memory is wanting.
+    pub(crate) fn show_reading(
+        &mut self,
+        alloc: Global,
+        round: &Round,
+        request: &Request,
+    ) -> Result<(), AllocError>
+        requires reading { IsReading request.now }
+        requires inside { AreInside round.now.cells.image }
+        ensures { OnOk result (self.new ≡ reading_text round.now request.now) }
+    {
+        self.shown = read(alloc, round, request)?;
+        Ok(())
+    }
+
     /// Shows another text.
     pub(crate) fn show_line(&mut self, line: Line)
         ensures { self.new ≡ line.items }
     {
         self.shown = Shown::Short(line);
-    }
-
-    /// Shows another text.
-    pub(crate) fn show(&mut self, text: Vec<u8>)
-        ensures { self.new ≡ text.items }
-    {
-        self.shown = Shown::Whole(text);
     }
 }
