@@ -1,5 +1,6 @@
 //! The file of a made program.
-ghost use Rattle.std.specs.Prelude.{◌≡◌, ◌≤◌, ◌++◌, OnOk, IfOk};
+ghost use Rattle.std.specs.Prelude.{◌≡◌, ◌≤◌, ◌++◌, None, OnOk, IfOk};
+ghost use Rattle.elf32.specs.Loading.{failure};
 ghost use Rattle.generator.specs.Files.{file_header, halves as halves_spec, made_image, program_header, words as words_spec};
 
 use crate::items::code;
@@ -57,6 +58,8 @@ fn push_program_header(bytes: &mut Vec<u8>, len: u32) -> Result<(), AllocError>
 pub fn make_image(alloc: Global, seed: u32, items: u32) -> Result<Vec<u8>, AllocError>
     requires few { items ≤ 1000 }
     ensures file { IfOk result (λ bytes. bytes.items ≡ made_image seed items) }
+    // It has an image.
+    ensures loads { IfOk result (λ bytes. failure bytes.items ≡ None) }
 {
     let code = code(alloc, seed, items)?;
     let mut bytes = header(alloc)?;
