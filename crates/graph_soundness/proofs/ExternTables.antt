@@ -1,5 +1,5 @@
 -- The registers and flags that externs read and write.
-use Rattle.std.proofs.Common.{◌≡◌, ℕ, zero, suc, ◌+◌, Bool, true, false, ◌||◌, List, [], ◌∷◌, ◌++◌, refl, sym, ap, subst, ◌∙◌}
+use Rattle.std.proofs.Common.{◌≡◌, ℕ, zero, suc, ◌+◌, Bool, true, false, ◌||◌, List, [], ◌∷◌, ◌++◌, refl, sym, subst, ◌∙◌}
 use Rattle.std.specs.Prelude.{max, nat_lt, ◌==◌}
 use Rattle.std.proofs.Math.Bool.{or-false}
 use Rattle.image_map.specs.declared.region.Kind.{Kind}

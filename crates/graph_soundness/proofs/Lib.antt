@@ -12,3 +12,5 @@ pub mod StepWrites
 pub mod StepAlways
 pub mod PlaceLaws
 pub mod CheckLaws
+pub mod CellPlaces
+pub mod CellLaws

@@ -8,6 +8,7 @@ use Rattle.ia32_semantics.specs.Ia32.{machine}
 use Rattle.ia32_semantics.specs.Machine.{Occurrence}
 use Rattle.ia32_semantics.specs.State.{AtByte}
 use Rattle.ia32_semantics.specs.Step.{Act, reads as step_reads, writes as step_writes, forgets as step_forgets}
+use Rattle.alocs.specs.Extents.{AreOfImage}
 use Rattle.vset.specs.World.{key_of}
 use Rattle.abs_steps.specs.Places.{content_at}
 use Rattle.abs_steps.specs.Rows.{view_of}
@@ -74,6 +75,12 @@ SureBytesAreWritten =
     → MustWrite image (view_of goes.comes.ready.value states.cells (here (map_drawn image settings states) o.before).context.proc) (content_at image settings o.before.eip)
     (goes_on_from image settings states (here (map_drawn image settings states) o.before) goes.comes.ready.value) (OfRegion spot.region (pos byte -ℤ pos spot.base))
     → step_writes o (AtByte byte) ≡ true
+
+-- The graph has a cell wherever a byte lies that was written, where the check of the map passes and its cells divide the image.
+abbrev pub WrittenBytesHaveCells : Type 0
+WrittenBytesHaveCells =
+    (image : Image) (settings : Settings) (states : States) → IsImage image → AreSettings (length image.externs) settings → IsClean (machine image settings) (map_drawn image settings states)
+    → AreOfImage image.segments states.cells.image → HaveCells image settings states
 
 -- So what an occurrence reads and writes has its place in the sets of its node, where the graph has a cell wherever something is written.
 abbrev pub PlacesAreCovered : Type 0

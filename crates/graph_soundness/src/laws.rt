@@ -1,6 +1,6 @@
 //! Laws of the definitions.
 
-ghost use Rattle.graph_soundness.specs.Laws.{CoresAreCovered, ReadsAreCovered, GraphsAreOfMaps, SetsAreOfAccesses, BytesMove, WritesAreCovered, SureBytesAreWritten, PlacesAreCovered, GraphsDescribe, SlicesOfGraphsListDependences, ClosedMapsAreClean};
+ghost use Rattle.graph_soundness.specs.Laws.{CoresAreCovered, ReadsAreCovered, GraphsAreOfMaps, SetsAreOfAccesses, BytesMove, WritesAreCovered, SureBytesAreWritten, WrittenBytesHaveCells, PlacesAreCovered, GraphsDescribe, SlicesOfGraphsListDependences, ClosedMapsAreClean};
 
 /// Registers and flags that an occurrence reads and writes are in the sets of its node, and those that the node must define are written.
 pub fn cores_are_covered()
@@ -38,6 +38,11 @@ pub fn writes_are_covered()
 /// Each byte that lies, after an occurrence, at an offset that the node must define was written, where the check of the map passes.
 pub fn sure_bytes_are_written()
     ensures { SureBytesAreWritten }
+{}
+
+/// The graph has a cell wherever a byte lies that was written, where the check of the map passes and its cells divide the image.
+pub fn written_bytes_have_cells()
+    ensures { WrittenBytesHaveCells }
 {}
 
 /// What an occurrence reads and writes has its place in the sets of its node.
