@@ -1,14 +1,19 @@
 -- No check fails on the file of a made program.
-use Rattle.std.proofs.Common.{◌≡◌, ℕ, ◌+◌, ◌*◌, ◌/◌, ◌%◌, ◌<◌, ◌≤◌, true, false, List, [], ◌∷◌, ◌++◌, length, drop, None, refl, ap, ◌∙◌, arith, length-append}
-use Rattle.std.specs.Prelude.{nat_eq, nat_lt, cond, filter, if◌then◌else◌}
+use Rattle.std.proofs.Common.{◌≡◌, ℕ, ◌+◌, ◌*◌, ◌/◌, ◌%◌, ◌<◌, ◌≤◌, true, false, List, [], ◌∷◌, ◌++◌, length, drop, None, Ok, refl, ap, ◌∙◌, subst, arith, length-append}
+use Rattle.std.specs.Prelude.{nat_eq, nat_lt, cond, filter, if◌then◌else◌, IfOk, get_or}
 use Rattle.std.specs.List.{starts_with}
 use Rattle.std.proofs.lemmas.Bool.{le-ltb, lt-ltb}
 use Rattle.byteorder.specs.Endian.{little_number}
+use Rattle.image_map.specs.declared.image.Image.{Image}
+use Rattle.image_map.specs.declared.image.Segment.{Segment}
+use Rattle.image_map.specs.Memory.{is_in}
+use Rattle.image_map.specs.Queries.{is_code}
+use Rattle.image_map.specs.Shapes.{Shape, shape, shapes}
 use Rattle.elf32.specs.declared.error.ElfError.TheVariants as errors
 use Rattle.elf32.specs.declared.fields.ProgramHeader.{ProgramHeader}
-use Rattle.elf32.specs.Fields.{half, word, e_type, e_machine, e_phoff, e_shoff, e_phentsize, e_phnum, e_shnum, program_header as header_at, rows}
+use Rattle.elf32.specs.Fields.{half, word, e_type, e_machine, e_entry, e_phoff, e_shoff, e_phentsize, e_phnum, e_shnum, program_header as header_at, rows}
 use Rattle.elf32.specs.Checks.{when, no_header, wrong_identity, wrong_header, short_tables, wrong_segments, short_sections, bias, loads, sections, own_cause, is_load, is_low_32, segments_cause}
-use Rattle.elf32.specs.Loading.{failure, outcome, wrong_relocation}
+use Rattle.elf32.specs.Loading.{begun, failure, outcome, wrong_relocation, Shows, Loads}
 use Rattle.generator.specs.Items.{code}
 use Rattle.generator.specs.Files.{file_header, program_header, made_image}
 use Rattle.generator.proofs.ItemLemmas.{short_code, code_length}
@@ -152,3 +157,39 @@ made_loads seed n few =
     let len = code_length seed n in
     let short = short_code seed n few in
     no_failure (length (code seed n)) (whole (length (code seed n)) (code seed n)) (omega (arith, len)) short (has_fields (length (code seed n)) (code seed n) refl short)
+
+-- -- Its entry
+
+-- a segment that stands there, with a byte, and that may be run
+code_in : (segments : List Segment) (len : ℕ) → 0 < len → shapes segments ≡ record { start = 0x08049000; len = len; flags = 5 } ∷ [] → is_in segments 1 0x08049000 ≡ true
+code_in [] len some same = absurd cc
+code_in (s ∷ t ∷ ss) len some same = let count = ap length same in absurd (omega (arith, count))
+code_in (s ∷ []) len some same =
+    let one : shape s ≡ record { start = 0x08049000; len = len; flags = 5 } = ap (λ xs. get_or xs 0 (shape s)) same in
+    let start : s.start ≡ 0x08049000 = ap (λ (x : Shape). x.start) one in
+    let long : length s.bytes ≡ len = ap (λ (x : Shape). x.len) one in
+    let flags : s.flags ≡ 5 = ap (λ (x : Shape). x.flags) one in
+    let reaches : nat_lt 0 len ≡ true = lt-ltb 0 len some in
+    rw (start, long, reaches, flags) refl
+
+module _ (len : ℕ) (f : List ℕ) (some : 0 < len) (low : len ≤ 6011) (has : HasFields len f) (entry : e_entry f ≡ 0x08049000) where
+  -- there is nothing to relocate
+  kept : outcome f ≡ Ok (begun f (bias f) (loads f))
+  unfolding outcome
+  kept = rw (no_sections len f some low has) refl
+
+  entry_in : (i : Image) → Loads f i → is_code i i.entry ≡ true
+  entry_in i made =
+      let shows : Shows f (begun f (bias f) (loads f)) i = subst (λ r. IfOk r (λ st. Shows f st i)) kept made.shows in
+      let at : i.entry ≡ 0x08049000 = shows.entry ∙ rw (entry, no_bias len f some low has) refl in
+      let all : shapes i.segments ≡ record { start = 0x08049000; len = len; flags = 5 } ∷ [] = shows.segments ∙ rw (no_bias len f some low has, one_load len f some low has) refl in
+      ap (λ a. is_code i a) at ∙ code_in i.segments len some all
+
+pub entry_is_code : (seed n : ℕ) (i : Image) → n ≤ 1000 → Loads (made_image seed n) i → is_code i i.entry ≡ true
+unfolding made_image
+entry_is_code seed n i few made =
+    let len = code_length seed n in
+    let short = short_code seed n few in
+    let f : List ℕ = whole (length (code seed n)) (code seed n) in
+    let bytes = long (length (code seed n)) (code seed n) refl in
+    entry_in (length (code seed n)) f (omega (arith, len)) short (has_fields (length (code seed n)) (code seed n) refl short) (word_is f 24 0x08049000 (omega (arith, bytes)) refl) i made
