@@ -2,6 +2,7 @@ mod AdvanceLemmas
 mod GrowLemmas
 mod LaneLemmas
 mod NumberLemmas
+mod OpenLemmas
 mod PinnedLemmas
 mod ReadingLemmas
 mod ReplyLemmas

@@ -5,6 +5,7 @@ mod advance;
 mod answer;
 mod gate;
 mod lanes;
+mod make;
 mod page;
 mod session;
 mod shop;
