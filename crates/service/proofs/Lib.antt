@@ -5,5 +5,6 @@ mod NumberLemmas
 mod OpenLemmas
 mod PinnedLemmas
 mod ReadingLemmas
+mod RefineLemmas
 mod ReplyLemmas
 mod StepLemmas

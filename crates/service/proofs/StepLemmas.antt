@@ -1,15 +1,22 @@
 -- What several tries to publish come to.
-use Rattle.std.proofs.Common.{◌≡◌, ℕ, ◌<◌, ◌≤◌, List, [], ◌∷◌, ◌++◌, sym, ap, ◌∙◌, subst, append_assoc, append-nil}
+use Rattle.std.proofs.Common.{◌≡◌, ℕ, ◌+◌, ◌<◌, ◌≤◌, arith, None, List, [], ◌∷◌, ◌++◌, sym, ap, ◌∙◌, subst, append_assoc, append-nil}
 use Rattle.std.specs.List.{AllByRecursion}
 use Rattle.round_core.specs.declared.word.Word.{Word}
 use Rattle.round_core.specs.Laws.{IsNoNewer}
 use Rattle.round_slots.specs.Seats.{Place, Pins, view_in}
 use Rattle.round_slots.proofs.ListLemmas.{all_map, all_left}
 use Rattle.rounds.specs.declared.numbered.RoundTag.{RoundTag}
+use Rattle.rounds.specs.declared.round.Round.{Round}
+use Rattle.rounds.specs.Tags.{BelongsTo}
+use Rattle.service.specs.declared.advance.Advance.{Advance}
+use Rattle.service.specs.declared.advance.Advance.TheVariants as came
 use Rattle.service.specs.declared.shop.Shop.{Shop}
+use Rattle.service.specs.Advances.{Advances}
+use Rattle.service.specs.Refines.{Visits}
 use Rattle.service.specs.Seats.{key_of, SitsIn}
 use Rattle.service.specs.Steps.{Grows, LooksOn, Publishes, Looks}
-use Rattle.service.proofs.GrowLemmas.{view_after, grows_then, grows_pin}
+use Rattle.service.proofs.GrowLemmas.{view_after, grows_none, grows_then, grows_pin}
+use Rattle.service.proofs.PinnedLemmas.{belongs_here}
 
 module _ (shop : Shop) (old mid new : Place RoundTag) (lane : ℕ) (words : List Word) (s : SitsIn shop old) (inside : lane < (key_of shop).lanes) (g : Grows old mid lane words []) where
   mid_seen : (view_in mid lane).seen ≡ (view_in old lane).seen ++ words
@@ -60,3 +67,19 @@ module _ (shop : Shop) (old cur mid : Place RoundTag) (lane n : ℕ) (words : Li
 
   pub tried_settles : (new : Place RoundTag) → new ≡ mid → Looks old new lane n
   tried_settles new same = subst (λ q. Looks old q lane n) (sym same) (pins_then shop old cur mid lane words s inside g n p)
+
+-- a visit to a lane
+module _ (shop : Shop) (old mid new : Place RoundTag) (lane : ℕ) (r : Round) (s : SitsIn shop old) (inside : lane < (key_of shop).lanes) (turn : (view_in old lane).turn ≡ None) (p : Pins (key_of shop) old mid lane r.number) where
+  pub visit_looks : LooksOn mid new lane → LooksOn old new lane
+  visit_looks l = tried_looks shop old old mid lane r.number [] s inside (grows_none shop old lane turn) p new l
+
+  pub visit_came : BelongsTo (key_of shop).tag.value lane r → r.number + 1 ≤ 8 → (a : Advance) → Advances mid new lane r a → Visits shop old new lane a
+  visit_came b few (came.Published n) h = (let is = h.0 in omega (arith, is, few), tried_publishes shop old old mid lane r.number [] s inside (grows_none shop old lane turn) p new n h.1)
+  visit_came b few (came.Settled n) h = (
+    r,
+    belongs_here shop lane r b,
+    h.1,
+    sym h.0,
+    subst (Looks old new lane) (sym h.0) (tried_settles shop old old mid lane r.number [] s inside (grows_none shop old lane turn) p new h.2),
+  )
+  visit_came b few came.Refused h = visit_looks h

@@ -7,3 +7,4 @@ pub mod Advances
 pub mod Ends
 pub mod Requests
 pub mod Answers
+pub mod Refines

@@ -1,6 +1,6 @@
 //! The lanes of a shop.
 
-ghost use Rattle.std.specs.Prelude.{◌≡◌, ◌<◌, Some};
+ghost use Rattle.std.specs.Prelude.{◌≡◌, ◌<◌, ◌≤◌, Some};
 ghost use Rattle.service.specs.Seats.{HasLane, store_lane};
 
 use crate::shop::Shop;
@@ -16,5 +16,13 @@ impl Shop {
             Some(Some(lane)) => *lane,
             _ => unreachable!(),
         }
+    }
+
+    /// How many lanes the store has.
+    pub(crate) fn lane_count(&self) -> u32
+        ensures lanes { result ≡ self.now.store.words.shared.key.lanes }
+        ensures few { result ≤ 4 }
+    {
+        self.store.words.word_count() as u32
     }
 }

@@ -7,11 +7,14 @@ mod gate;
 mod lanes;
 mod make;
 mod page;
+mod refine;
+mod refining;
 mod session;
 mod shop;
 mod short;
 mod step;
 
 pub use gate::{Gate, OpenGate, Place, Point};
+pub use refine::refiner;
 pub use session::{Reply, Session};
 pub use shop::{Seat, Shop};
