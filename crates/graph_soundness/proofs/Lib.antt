@@ -14,3 +14,4 @@ pub mod PlaceLaws
 pub mod CheckLaws
 pub mod CellPlaces
 pub mod CellLaws
+pub mod FormedLaws

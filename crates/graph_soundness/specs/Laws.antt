@@ -18,6 +18,7 @@ use Rattle.slice_soundness.specs.Laws.{SlicesListDependences}
 use Rattle.slice_soundness.specs.Maps.{here}
 use Rattle.slice_soundness.specs.Premises.{Comes, GoesOn, IsClean, IsGraphOf, Covers, Describes}
 use Rattle.call_soundness.specs.Maps.{Drawn, map_of}
+use Rattle.state_forms.specs.Images.{HasBytes}
 use Rattle.graph_soundness.specs.Checks.{is_closed, is_quiet, HaveForms}
 use Rattle.graph_soundness.specs.Cores.{KeepsCores}
 use Rattle.graph_soundness.specs.Drawn.{map_drawn, division_of}
@@ -55,6 +56,11 @@ abbrev pub SetsAreOfAccesses : Type 0
 SetsAreOfAccesses =
     (image : Image) (settings : Settings) (states : States) → AreAllFormed image settings states
     → HasSets (map_drawn image settings states) (division_of states) (accesses_of image settings states)
+
+-- All intervals of the reaches have the one form of their members, in a map of which each state has the form that the analysis keeps.
+abbrev pub ReachesAreFormed : Type 0
+ReachesAreFormed =
+    (image : Image) (settings : Settings) (states : States) → HasBytes image → AreSettings (length image.externs) settings → HaveForms states → AreAllFormed image settings states
 
 -- Each byte that an occurrence writes and doesn't forget lies, after it, at an offset that the node may define, where the check of the map passes.
 abbrev pub WritesAreCovered : Type 0

@@ -1,6 +1,6 @@
 //! Laws of the definitions.
 
-ghost use Rattle.graph_soundness.specs.Laws.{CoresAreCovered, ReadsAreCovered, GraphsAreOfMaps, SetsAreOfAccesses, BytesMove, WritesAreCovered, SureBytesAreWritten, WrittenBytesHaveCells, PlacesAreCovered, GraphsDescribe, SlicesOfGraphsListDependences, ClosedMapsAreClean};
+ghost use Rattle.graph_soundness.specs.Laws.{CoresAreCovered, ReadsAreCovered, GraphsAreOfMaps, SetsAreOfAccesses, ReachesAreFormed, BytesMove, WritesAreCovered, SureBytesAreWritten, WrittenBytesHaveCells, PlacesAreCovered, GraphsDescribe, SlicesOfGraphsListDependences, ClosedMapsAreClean};
 
 /// Registers and flags that an occurrence reads and writes are in the sets of its node, and those that the node must define are written.
 pub fn cores_are_covered()
@@ -27,6 +27,11 @@ pub fn bytes_move()
 /// must be defined.
 pub fn sets_are_of_accesses()
     ensures { SetsAreOfAccesses }
+{}
+
+/// All intervals of the reaches have the one form of their members, in a map of which each state has the form that the analysis keeps.
+pub fn reaches_are_formed()
+    ensures { ReachesAreFormed }
 {}
 
 /// Each byte that an occurrence writes and doesn't forget lies, after it, at an offset that the node may define, where the check of the
