@@ -1,2 +1,3 @@
 pub mod BridgeLaws
-pub mod ListLaws
+pub mod RoundLaws
+pub mod ArrowLaws
