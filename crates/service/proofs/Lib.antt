@@ -7,4 +7,5 @@ mod PinnedLemmas
 mod ReadingLemmas
 mod RefineLemmas
 mod ReplyLemmas
+mod RunLemmas
 mod StepLemmas

@@ -8,3 +8,4 @@ pub mod Ends
 pub mod Requests
 pub mod Answers
 pub mod Refines
+pub mod Runs

@@ -9,6 +9,7 @@ mod make;
 mod page;
 mod refine;
 mod refining;
+mod run;
 mod session;
 mod shop;
 mod short;
