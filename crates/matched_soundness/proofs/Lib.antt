@@ -1,0 +1,5 @@
+pub mod KindLaws
+pub mod TurnLaws
+pub mod WalkLaws
+pub mod PlaceLaws
+pub mod MatchLaws
