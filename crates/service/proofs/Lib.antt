@@ -8,4 +8,5 @@ mod ReadingLemmas
 mod RefineLemmas
 mod ReplyLemmas
 mod RunLemmas
+mod ServeLemmas
 mod StepLemmas

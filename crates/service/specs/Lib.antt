@@ -9,3 +9,4 @@ pub mod Requests
 pub mod Answers
 pub mod Refines
 pub mod Runs
+pub mod Jobs
