@@ -1,6 +1,7 @@
 //! Sessions and refiners over published rounds of one program.
 #![tactic(auto)]
 
+mod admit;
 mod advance;
 mod answer;
 mod gate;
