@@ -21,10 +21,8 @@ use Rattle.command_words.specs.declared.line.Entry.{Entry}
 use Rattle.command_words.specs.declared.line.Entry.TheVariants as entries
 use Rattle.elf32.proofs.Sound.{neither}
 use Rattle.image_map.specs.Shapes.{Shape, shapes}
-use Rattle.surf_prog.specs.Straight.Bytes.{most_code, code_of, HoldsCode}
-use Rattle.surf_prog.specs.Entry.{entry_place, Enters, LacksEntry}
-use Rattle.surf_prog.proofs.CodeLaws.{held_code}
-use Rattle.surf_prog.proofs.SegmentLaws.{flagged_below}
+use Rattle.surf_prog.specs.Entry.{entry_place, Enters, IsNoEntry}
+use Rattle.std.proofs.lemmas.Option.{same_Some}
 
 -- -- A file with an image passes each check
 
@@ -145,37 +143,20 @@ unfolding code_run
 same_run file i j p q a zero = refl
 same_run file i j p q a (suc n) = let byte = same_code_byte file i j p q a in let rest = same_run file i j p q (a + 1) n in λ k. begun_by (byte k) (rest k)
 
--- the code from a place on
-pub same_code_of : (file : List ℕ) (i j : Image) → Loads file i → Loads file j → (place : ℕ) → code_of i place ≡ code_of j place
-same_code_of file i j p q place = same_run file i j p q place most_code
-
--- the image has it where it is entered
-pub entered_code : (file : List ℕ) (entry : Option Entry) (i : Image) (place : ℕ) → Enters file entry i place → HoldsCode i place (code_of i place)
-entered_code file entry i place entered =
-    let image = loaded_image file i entered.loads in
-    let below = flagged_below i.segments 1 place image.segments entered.enters in
-    held_code i place most_code (code_of i place) (omega arith) refl image
-
--- each image is entered at one place
-pub one_place : (file : List ℕ) (entry : Option Entry) (i j : Image) (a b : ℕ) → Enters file entry i a → Enters file entry j b → a ≡ b
-one_place file entry i j a b p q =
-    let same : ◌≡◌ {A = Option ℕ} (Some a) (Some b) = sym p.finds ∙ same_place file i j p.loads q.loads entry ∙ q.finds in
+-- images of one file are entered at one place
+pub one_place : (file : List ℕ) (entry : Option Entry) (i j : Image) (a b : ℕ) → Loads file i → Loads file j → Enters i entry a → Enters j entry b → a ≡ b
+one_place file entry i j a b l m p q =
+    let same : ◌≡◌ {A = Option ℕ} (Some a) (Some b) = sym p.finds ∙ same_place file i j l m entry ∙ q.finds in
     cc
 
--- where one image is entered in code, another is that is entered there
-pub entered_too : (file : List ℕ) (entry : Option Entry) (i j : Image) (a b : ℕ) → Enters file entry i a → Loads file j → entry_place j entry ≡ Some b → Enters file entry j b
-entered_too file entry i j a b p loads finds =
-    let same : ◌≡◌ {A = Option ℕ} (Some a) (Some b) = sym p.finds ∙ same_place file i j p.loads loads entry ∙ finds in
-    let place : a ≡ b = cc in
-    record { loads = loads; finds = finds; enters = ap (is_code j) (sym place) ∙ sym (same_code file i j p.loads loads a) ∙ p.enters }
+-- an image is entered at one place
+pub entered_once : (image : Image) (entry : Option Entry) (a b : ℕ) → Enters image entry a → Enters image entry b → a ≡ b
+entered_once image entry a b p q = same_Some a b (sym p.finds ∙ q.finds)
 
--- it is entered in code by each image, or by none
+-- where it is entered in code, it isn't so that it is entered nowhere
 place_lacks : (image : Image) (found : Option ℕ) (place : ℕ) → found ≡ Some place → is_code image place ≡ true → MatchOption found (Unit {0}) (λ a. is_code image a ≡ false) → ⊥
 place_lacks image None place is code lacks = absurd (cc)
 place_lacks image (Some a) place is code lacks = let same : a ≡ place = cc in false≢true (sym lacks ∙ ap (is_code image) same ∙ code)
 
-pub not_lacking : (file : List ℕ) (entry : Option Entry) (image : Image) (place : ℕ) → Enters file entry image place → ¬ LacksEntry file entry
-not_lacking file entry image place entered lacks =
-    let found : entry_place lacks.0 entry ≡ Some place = sym (same_place file image lacks.0 entered.loads lacks.1 entry) ∙ entered.finds in
-    let code : is_code lacks.0 place ≡ true = sym (same_code file image lacks.0 entered.loads lacks.1 place) ∙ entered.enters in
-    place_lacks lacks.0 (entry_place lacks.0 entry) place found code lacks.2
+pub not_lacking : (image : Image) (entry : Option Entry) (place : ℕ) → Enters image entry place → ¬ IsNoEntry image entry
+not_lacking image entry place entered lacks = place_lacks image (entry_place image entry) place entered.finds entered.enters lacks

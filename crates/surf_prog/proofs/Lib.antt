@@ -1,11 +1,11 @@
-pub mod SegmentLaws
-pub mod CodeLaws
 pub mod ListingLaws
+pub mod StartLemmas
+pub mod SettingsLaws
 pub mod TracingLaws
 pub mod FileImage
 pub mod RefusalLaws
+pub mod RoundLaws
+pub mod RunReply
 pub mod RequestLaws
 pub mod OneTrace
 pub mod OneAnswer
-pub mod RunReply
-pub mod StraightCode

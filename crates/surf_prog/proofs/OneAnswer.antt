@@ -1,37 +1,21 @@
--- A file answers a task in one way at most.
-use Rattle.std.proofs.Common.{◌≡◌, ℕ, zero, suc, ◌+◌, List, [], ◌∷◌, Option, Some, sym, ◌∙◌, ap, subst}
-use Rattle.std.specs.Prelude.{false, take}
+-- A query is answered in one way at most.
+use Rattle.std.proofs.Common.{◌≡◌, ℕ, zero, suc, ◌+◌, List, [], ◌∷◌, Option, sym, ◌∙◌, subst}
+use Rattle.std.specs.Prelude.{take}
 use Rattle.std.proofs.lemmas.Option.{same_Some}
 use Rattle.ia32_types.specs.declared.Instr.{Instr}
 use Rattle.ia32_types.specs.Spells.{Spells}
 use Rattle.image_map.specs.declared.image.Image.{Image}
 use Rattle.elf32.specs.Loading.{Loads}
-use Rattle.command_words.specs.declared.line.Entry.{Entry}
+use Rattle.surf_prog.specs.declared.words.Task.{Task}
 use Rattle.surf_prog.specs.declared.words.Task.TheVariants as task
-use Rattle.surf_prog.specs.Straight.Code.{StopsAt, straight_graph}
-use Rattle.slicer.specs.Slicer.{FlowEdge, IsSlice}
 use Rattle.ia32_semantics.specs.Fetch.{fetch_window, longest_instruction, IsFetched}
-use Rattle.surf_prog.specs.Straight.Bytes.{code_of}
 use Rattle.surf_prog.specs.Listing.{StandsAt, Follow, IsListing}
-use Rattle.requests.specs.Texts.{slice_text}
-use Rattle.surf_prog.specs.Once.{IsSliceReply, IsListReply, first_place}
-use Rattle.surf_prog.specs.OneAnswer.{RepliesAreOne, StopsAreOne, AbsencesAreOne, OutcomesExclude}
-use Rattle.surf_prog.proofs.StraightCode.StopLemmas.{one_stop}
-use Rattle.surf_prog.proofs.FileImage.{same_run, same_code_of, one_place}
-use Rattle.ia32_run.proofs.RisingLists.{same_rising}
-use Rattle.surf_prog.proofs.OneTrace.{one_trace_reply}
-use Rattle.surf_prog.proofs.RequestLaws.{one_code, loads_passes, enters_once, reply_enters, absent_enters, unsupported_enters, absent_supported, reply_supported, reply_present}
-
--- -- Slices
-
-one_slice : (g : List Instr) (at : ℕ) (xs ys : List ℕ) → IsSlice (FlowEdge (straight_graph g) false) (straight_graph g) at xs → IsSlice (FlowEdge (straight_graph g) false) (straight_graph g) at ys → xs ≡ ys
-one_slice g at xs ys p q = same_rising xs ys p.rising q.rising (λ a c. (q.listed a).1 ((p.listed a).0 c)) (λ a c. (p.listed a).1 ((q.listed a).0 c))
-
-one_slice_reply : (file : List ℕ) (entry : Option Entry) (at lane : ℕ) (one other : List ℕ) → IsSliceReply file entry at lane one → IsSliceReply file entry at lane other → one ≡ other
-one_slice_reply file entry at lane one other p q =
-    let instrs = one_code file entry p.instrs q.instrs p.code q.code in
-    let slice = subst (λ g. IsSlice (FlowEdge (straight_graph g) false) (straight_graph g) at p.told.addresses) instrs p.told.slice in
-    p.told.text_is ∙ ap (λ l. slice_text at 0 lane l 0) (one_slice q.instrs at p.told.addresses q.told.addresses slice q.told.slice) ∙ sym q.told.text_is
+use Rattle.surf_prog.specs.Once.{RepliesAt, AbsentAt, IsListReply, first_place}
+use Rattle.surf_prog.specs.OneAnswer.{RepliesAreOne, ShowsCode, ListsAreOne, AbsencesAreOne, ImagesPass, OutcomesExclude}
+use Rattle.surf_prog.proofs.FileImage.{same_run, one_place}
+use Rattle.surf_prog.proofs.OneTrace.{one_tracing}
+use Rattle.surf_prog.proofs.RoundLaws.{one_round_reply, one_absence}
+use Rattle.surf_prog.proofs.RequestLaws.{at_once, enters_once, loads_passes, reply_in_time, absence_in_time, reply_present}
 
 -- -- Lists, by whatever image of the file
 
@@ -49,58 +33,52 @@ moved_follow file i j p q zero a xs follow = follow
 moved_follow file i j p q (suc n) a [] none = λ x stands. none x (moved_stands file j i q p a x stands)
 moved_follow file i j p q (suc n) a (x ∷ xs) follow = (moved_stands file i j p q a x follow.0, moved_follow file i j p q n (a + x.len) xs follow.1)
 
-one_list_reply : (file : List ℕ) (entry : Option Entry) (from : Option ℕ) (steps : ℕ) (one other : List ℕ) → IsListReply file entry from steps one → IsListReply file entry from steps other → one ≡ other
-one_list_reply file entry from steps one other p q =
-    let i = p.there.image in
-    let j = q.there.image in
-    let there = q.lists.0 in
-    let follow = moved_follow file j i q.there.entered.loads p.there.entered.loads steps (first_place q.there.place from) there.instrs there.follow in
-    let place = one_place file entry j i q.there.place p.there.place q.there.entered p.there.entered in
-    let lists : IsListing i (first_place p.there.place from) steps other = record {
+one_list_reply : (file : List ℕ) (i j : Image) (place : ℕ) (from : Option ℕ) (steps : ℕ) (one other : List ℕ) → Loads file i → Loads file j → IsListReply i place from steps one → IsListReply j place from steps other → one ≡ other
+one_list_reply file i j place from steps one other l m p q =
+    let there = q.1.0 in
+    let lists : IsListing i (first_place place from) steps other = record {
       instrs = there.instrs;
-      follow = subst (λ a. Follow i steps (first_place a from) there.instrs) place follow;
+      follow = moved_follow file j i m l steps (first_place place from) there.instrs there.follow;
       text_is = there.text_is;
     } in
-    sym (p.lists.1 other lists)
+    sym (p.1.1 other lists)
+
+-- -- Replies
+
+one_code_reply : (file : List ℕ) (i j : Image) (place : ℕ) (asked : Task) (one other : List ℕ) → Loads file i → Loads file j → ShowsCode asked → RepliesAt i place asked one → RepliesAt j place asked other → one ≡ other
+one_code_reply file i j place (task.Ask plan question) one other l m shows p q = absurd shows
+one_code_reply file i j place (task.List from steps) one other l m shows p q = one_list_reply file i j place from steps one other l m p q
+one_code_reply file i j place (task.Trace options) one other l m shows p q = one_tracing file options i j place one other l m p q
+
+one_reply : (file : List ℕ) (image : Image) (place : ℕ) (asked : Task) (one other : List ℕ) → Loads file image → RepliesAt image place asked one → RepliesAt image place asked other → one ≡ other
+one_reply file image place (task.Ask plan question) one other l p q = one_round_reply image place plan question one other p q
+one_reply file image place (task.List from steps) one other l p q = one_list_reply file image image place from steps one other l l p q
+one_reply file image place (task.Trace options) one other l p q = one_tracing file options image image place one other l l p q
 
 pub replies_are_one : RepliesAreOne
-replies_are_one file (task.Slice entry at lane) one other p q = one_slice_reply file entry at lane one other p q
-replies_are_one file (task.List entry from steps) one other p q = one_list_reply file entry from steps one other p q
-replies_are_one file (task.Trace entry options) one other p q = one_trace_reply file entry options one other p q
+replies_are_one file image loads query one other p q = let both = at_once image query _ _ p q in one_reply file image both.0 query.task one other loads both.1 both.2
+
+pub lists_are_one : ListsAreOne
+lists_are_one file i j l m query shows one other p q =
+    let place = one_place file query.entry i j p.place q.place l m p.enters q.enters in
+    one_code_reply file i j p.place query.task one other l m shows p.fact (subst (λ a. RepliesAt j a query.task other) (sym place) q.fact)
 
 -- -- Refusals
 
-pub stops_are_one : StopsAreOne
-stops_are_one file (task.Slice entry at lane) one other p q =
-    let i = p.0 in
-    let j = q.0 in
-    let code = subst (λ c. StopsAt p.1 c one) (same_code_of file i j p.2.loads q.2.loads p.1) p.3 in
-    let stops = subst (λ e. StopsAt e (code_of j e) one) (one_place file entry i j p.1 q.1 p.2 q.2) code in
-    one_stop q.1 (code_of j q.1) one other stops q.3
-stops_are_one file (task.List entry from steps) one other p q = absurd p
-stops_are_one file (task.Trace entry options) one other p q = absurd p
+absent_once : (image : Image) (place : ℕ) (asked : Task) (one other : ℕ) → AbsentAt image place asked one → AbsentAt image place asked other → one ≡ other
+absent_once image place (task.Ask plan question) one other p q = one_absence image place plan question one other p q
+absent_once image place (task.List from steps) one other p q = same_Some one other (sym p.0 ∙ q.0)
+absent_once image place (task.Trace options) one other p q = same_Some one other (sym p.named ∙ q.named)
 
 pub absences_are_one : AbsencesAreOne
-absences_are_one file (task.Slice entry at lane) one other p q = p.0 ∙ sym q.0
-absences_are_one file (task.Trace entry options) one other p q = same_Some one other (sym p.3.named ∙ q.3.named)
-absences_are_one file (task.List entry from steps) one other p q = let same : ◌≡◌ {A = Option ℕ} (Some one) (Some other) = sym p.0 ∙ q.0 in cc
+absences_are_one file image loads query one other p q = let both = at_once image query _ _ p q in absent_once image both.0 query.task one other both.1 both.2
+
+pub images_pass : ImagesPass
+images_pass file image cause loads none = loads_passes file image cause loads none
 
 pub outcomes_exclude : OutcomesExclude
 outcomes_exclude = record {
-  no_image = λ file asked cause none. (
-    (λ entry. loads_passes file entry.0 cause entry.1 none),
-    (λ at unsupported. let there = unsupported_enters file asked at unsupported in loads_passes file there.image cause there.entered.loads none),
-    (λ at absent. let there = absent_enters file asked at absent in loads_passes file there.image cause there.entered.loads none),
-    (λ has. let there = reply_enters file asked has in loads_passes file there.image cause there.entered.loads none),
-  );
-  no_entry = λ file asked none. (
-    (λ at unsupported. let there = unsupported_enters file asked at unsupported in enters_once file asked there none),
-    (λ at absent. let there = absent_enters file asked at absent in enters_once file asked there none),
-    (λ has. let there = reply_enters file asked has in enters_once file asked there none),
-  );
-  unsupported = λ file asked place unsupported. (
-    (λ at absent. absent_supported file asked at place absent unsupported),
-    (λ has. reply_supported file asked place has unsupported),
-  );
-  absent = λ file asked at absent has. reply_present file asked at has absent;
+  no_entry = λ image query none. ((λ n behind. enters_once image query _ behind none), (λ at absent. enters_once image query _ absent none), (λ has. enters_once image query _ has none));
+  behind = λ image query n behind. ((λ at absent. absence_in_time image query n at absent behind), (λ has. reply_in_time image query n has behind));
+  absent = λ file image loads query at absent has. reply_present file image query at loads has absent;
 }

@@ -1,63 +1,94 @@
--- A reply tells every dependence of every run of its file's image.
-use Rattle.std.proofs.Common.{◌≡◌, ℕ, zero, suc, ◌<◌, Option, List, [], ◌∷◌, ◌++◌, length, get_or, sym, ap, subst, ◌∙◌, arith, append_assoc}
-use Rattle.std.specs.Prelude.{false, Contains, codes}
+-- A reply tells every dependence of every run of its image.
+use Rattle.std.proofs.Common.{◌≡◌, ℕ, zero, suc, ◌<◌, Bool, true, false, List, [], ◌∷◌, ◌++◌, length, get_or, refl, sym, ap, subst, ◌∙◌, arith, append_assoc}
+use Rattle.std.specs.Prelude.{Contains, codes}
 use Rattle.std.specs.List.{flat_map}
 use Rattle.std.specs.Fmt.{decimal}
-use Rattle.std.proofs.lemmas.Option.{IfSome_then}
-use Rattle.surf_base.specs.Sink.{Appends, WritesLines}
-use Rattle.surf_base.proofs.TextLines.{lines_append}
-use Rattle.command_words.specs.declared.line.Entry.{Entry}
-use Rattle.surf_prog.specs.Entry.{Enters}
+use Rattle.std.proofs.Common.{append-nil}
+use Rattle.image_map.specs.declared.image.Image.{Image}
+use Rattle.image_map.specs.declared.region.Settings.{Settings}
+use Rattle.image_map.specs.CallModel.{AreSettings}
+use Rattle.image_map.specs.Whole.{IsImage}
+use Rattle.ia32_semantics.specs.Runs.{stands_at}
+use Rattle.requests.specs.Texts.{address_line, first_line, last_line, listed}
+use Rattle.slicer.specs.Slicer.{IsSlice}
+use Rattle.vsa.specs.declared.warning.Warning.{Warning}
+use Rattle.rounds.specs.declared.round.Round.{Round}
+use Rattle.rounds.specs.Rounds.{IsRound}
+use Rattle.round_soundness.specs.Quiet.{IsQuietRound}
+use Rattle.round_soundness.proofs.ArrowLaws.{round_lists}
+use Rattle.round_answers.specs.declared.question.Question.{Question}
+use Rattle.round_answers.specs.declared.question.Question.TheVariants as question
+use Rattle.round_answers.specs.Replies.{EdgeOf, Lists, IsOwnReply, has_some, is_warned, unless_none, IsReply as IsReplyOf}
+use Rattle.surf_prog.specs.declared.words.Query.{Query}
 use Rattle.surf_prog.specs.declared.words.Task.{Task}
 use Rattle.surf_prog.specs.declared.words.Task.TheVariants as task
-use Rattle.requests.specs.Texts.{address_line, first_line, last_line, slice_text}
-use Rattle.surf_prog.specs.Straight.Code.{IsStraight}
-use Rattle.surf_prog.specs.Straight.Bytes.{code_of}
-use Rattle.surf_prog.specs.Once.{IsSliceReply, IsReply, WritesReply}
-use Rattle.surf_prog.specs.RunReply.{TellsAddress, TellsDependences, WritesDependences}
-use Rattle.ia32_semantics.specs.Runs.{stands_at}
-use Rattle.surf_prog.proofs.StraightCode.LawLemmas.{slices_list_dependences}
-use Rattle.surf_prog.proofs.FileImage.{loaded_image, same_code_of, one_place, entered_too, entered_code}
+use Rattle.surf_prog.specs.Once.{planned, RepliesAt, WarnsAt, IsReply, IsWarned}
+use Rattle.surf_prog.specs.RunReply.{TellsAddress, TellsSources, TellsRuns, TellsDependencesAt, TellsDependences}
+use Rattle.surf_prog.proofs.SettingsLaws.{are_settings}
+
+-- -- Texts
 
 -- an element's lines stand among all lines
-told : (f : ℕ → List ℕ) (xs : List ℕ) (x k : ℕ) → k < length xs → get_or xs k x ≡ x → (rest : List ℕ) → (before : List ℕ) × (after : List ℕ) × (flat_map f xs ++ rest ≡ before ++ (f x ++ after))
-told f [] x k h e rest = absurd (omega arith)
-told f (y ∷ ys) x zero h e rest = ([], flat_map f ys ++ rest, append_assoc (f y) (flat_map f ys) rest ∙ ap (λ v. f v ++ (flat_map f ys ++ rest)) e)
-told f (y ∷ ys) x (suc k) h e rest =
-    let r = told f ys x k (omega arith) e rest in
+told_among : (f : ℕ → List ℕ) (xs : List ℕ) (x k : ℕ) → k < length xs → get_or xs k x ≡ x → (rest : List ℕ) → (before : List ℕ) × (after : List ℕ) × (flat_map f xs ++ rest ≡ before ++ (f x ++ after))
+told_among f [] x k h e rest = absurd (omega arith)
+told_among f (y ∷ ys) x zero h e rest = ([], flat_map f ys ++ rest, append_assoc (f y) (flat_map f ys) rest ∙ ap (λ v. f v ++ (flat_map f ys ++ rest)) e)
+told_among f (y ∷ ys) x (suc k) h e rest =
+    let r = told_among f ys x k (omega arith) e rest in
     (f y ++ r.0, r.1, append_assoc (f y) (flat_map f ys) rest ∙ ap (λ l. f y ++ l) r.2 ∙ sym (append_assoc (f y) r.0 (f x ++ r.1)))
 
-slice_tells : (at round lane : ℕ) (addresses : List ℕ) (warnings address : ℕ) → Contains addresses address → TellsAddress (slice_text at round lane addresses warnings) address
-slice_tells at round lane addresses warnings address c =
-    let head = first_line (codes "slice") (at ∷ []) round lane in
-    let r = told address_line addresses address c.0 c.1 c.2 (last_line (decimal (length addresses)) (codes " addresses ") warnings) in
+listed_tells : (word asked : List ℕ) (round lane : ℕ) (addresses : List ℕ) (warnings address : ℕ) → Contains addresses address → TellsAddress (listed word asked round lane addresses warnings) address
+listed_tells word asked round lane addresses warnings address c =
+    let head = first_line word asked round lane in
+    let r = told_among address_line addresses address c.0 c.1 c.2 (last_line (decimal (length addresses)) (codes " addresses ") warnings) in
     (head ++ r.0, r.1, ap (λ l. head ++ l) r.2 ∙ sym (append_assoc head r.0 (address_line address ++ r.1)))
 
-pub slice_tells_dependences : (file : List ℕ) (entry : Option Entry) (at lane : ℕ) (text : List ℕ) → IsSliceReply file entry at lane text → TellsDependences file (task.Slice entry at lane) text
-slice_tells_dependences file entry at lane text reply image loads settings finds run is j i criterion source criterion_is there source_is depends =
-    let own = reply.code.image in
-    let entered = reply.code.entered in
-    let code = same_code_of file own image entered.loads loads reply.code.place in
-    let moved = subst (λ c. IsStraight reply.code.place c reply.instrs) code reply.code.straight in
-    let here : Enters file entry image settings.entry = entered_too file entry own image reply.code.place settings.entry entered loads finds in
-    let straight = subst (λ e. IsStraight e (code_of image e) reply.instrs) (one_place file entry own image reply.code.place settings.entry entered here) moved in
-    let there_is =
-    slices_list_dependences image settings (code_of image settings.entry) reply.instrs (loaded_image file image loads) straight (entered_code file entry image settings.entry here) false at reply.told.addresses reply.told.slice
-    run is j i criterion source criterion_is there source_is depends in
-    subst (λ t. TellsAddress t (stands_at source)) (sym reply.told.text_is) (slice_tells at 0 lane reply.told.addresses 0 (stands_at source) there_is)
+-- -- Rounds without warnings
 
-pub reply_tells_dependences : (file : List ℕ) (asked : Task) (text : List ℕ) → IsReply file asked text → TellsDependences file asked text
-reply_tells_dependences file (task.Slice entry at lane) text reply = slice_tells_dependences file entry at lane text reply
-reply_tells_dependences file (task.List entry from steps) text reply = tt
-reply_tells_dependences file (task.Trace entry options) text reply = tt
+none_there : (warnings : List Warning) → ¬ (has_some warnings ≡ true) → warnings ≡ []
+none_there [] calm = refl
+none_there (w ∷ ws) calm = absurd (calm refl)
 
--- so does what a request writes
-pub writes_dependences : (words : List (List ℕ)) (files : List ℕ → Option (List ℕ)) (old new : Option (List ℕ)) → WritesReply words files (λ text. Appends old new text) → WritesDependences words files old new
-writes_dependences words files old new writes name asked asks =
-    IfSome_then (files name) (writes name asked asks) (λ file reply. (reply.0, reply_tells_dependences file asked reply.0 reply.1, reply.2))
+slice_tells : (image : Image) (settings : Settings) (r : Round) (skip_sp : Bool) (at : ℕ) (text : List ℕ) → IsImage image → AreSettings (length image.externs) settings → IsRound image settings r → r.warnings.items ≡ []
+    → Lists r (codes "slice") (at ∷ []) (IsSlice (EdgeOf r skip_sp) r.graph.flow.nodes at) text → TellsSources image settings skip_sp at text
+slice_tells image settings r skip_sp at text is are round none lists run is_run j i criterion source criterion_is there source_is depends =
+    let quiet : IsQuietRound image settings r = record { image_is = is; settings_are = are; round_is = round; none = none } in
+    let there_is = round_lists image settings r quiet run is_run skip_sp at lists.addresses lists.are j i criterion source criterion_is there source_is depends in
+    subst (λ t. TellsAddress t (stands_at source)) (sym lists.text_is) (listed_tells (codes "slice") (at ∷ []) r.number r.lane lists.addresses _ (stands_at source) there_is)
 
--- a reply that was written line by line was appended
-pub reply_appends : {K : Type 0} (written : K → Option (List ℕ)) (faults : K → ℕ) (before after : K) (words : List (List ℕ)) (files : List ℕ → Option (List ℕ))
-    → WritesReply words files (λ text. WritesLines written faults before text after) → WritesReply words files (λ text. Appends (written before) (written after) text)
-reply_appends written faults before after words files writes name asked asks =
-    IfSome_then (files name) (writes name asked asks) (λ file reply. (reply.0, reply.1, lines_append written faults before after reply.0 reply.2))
+round_tells : (image : Image) (settings : Settings) (r : Round) (asked : Question) (text : List ℕ) → IsImage image → AreSettings (length image.externs) settings → IsRound image settings r → r.warnings.items ≡ []
+    → IsOwnReply image settings r asked text → TellsRuns image settings asked text
+round_tells image settings r (question.Slice at skip_sp) text is are round none own = slice_tells image settings r skip_sp at text is are round none own
+round_tells image settings r (question.Values at) text is are round none own = tt
+round_tells image settings r question.Locations text is are round none own = tt
+round_tells image settings r question.Graph text is are round none own = tt
+round_tells image settings r (question.Forward at skip_sp) text is are round none own = tt
+round_tells image settings r (question.Chop from at skip_sp) text is are round none own = tt
+round_tells image settings r (question.Why from at skip_sp) text is are round none own = tt
+round_tells image settings r (question.Matched at skip_sp) text is are round none own = tt
+
+-- nothing stands behind the reply itself
+alone : (warned : Bool) (own behind : List ℕ) → ¬ (warned ≡ true) → own ++ unless_none warned behind ≡ own
+alone true own behind calm = absurd (calm refl)
+alone false own behind calm = append-nil own
+
+reply_tells : (image : Image) (settings : Settings) (r : Round) (asked : Question) (text : List ℕ) → IsImage image → AreSettings (length image.externs) settings → IsRound image settings r → ¬ (is_warned r ≡ true)
+    → IsReplyOf image settings r asked text → TellsRuns image settings asked text
+reply_tells image settings r asked text is are round calm reply =
+    subst (λ t. TellsRuns image settings asked t) (sym (reply.text_is ∙ alone (is_warned r) reply.own _ calm)) (round_tells image settings r asked reply.own is are round (none_there r.warnings.items calm) reply.is_own)
+
+-- -- Replies
+
+tells_at : (image : Image) (place : ℕ) (asked : Task) (text : List ℕ) → IsImage image → RepliesAt image place asked text → ¬ WarnsAt image place asked → TellsDependencesAt image place asked text
+tells_at image place (task.Ask plan asked) text is reply calm =
+    reply_tells image (planned image place plan) reply.round asked text is (are_settings image place plan.rounds plan.externs (planned image place plan) refl) reply.is_planned.round
+    (λ warned. calm (reply.round, reply.is_planned, warned)) reply.told
+tells_at image place (task.List from steps) text is reply calm = tt
+tells_at image place (task.Trace options) text is reply calm = tt
+
+-- a reply that warns of nothing tells the dependences of its image's runs
+pub tells_dependences : (image : Image) (query : Query) (text : List ℕ) → IsImage image → IsReply image query text → ¬ IsWarned image query → TellsDependences image query text
+tells_dependences image query text is reply calm = record {
+  place = reply.place;
+  enters = reply.enters;
+  fact = tells_at image reply.place query.task text is reply.fact (λ warns. calm (record { place = reply.place; enters = reply.enters; fact = warns }));
+}

@@ -1,9 +1,8 @@
 -- Where an image is entered. The project's own.
-use Rattle.std.specs.Prelude.{◌≡◌, ℕ, true, false, List, Option, Some, None, MatchOption}
+use Rattle.std.specs.Prelude.{◌≡◌, ℕ, true, false, Option, Some, None, MatchOption}
 use Rattle.image_map.specs.declared.image.Image.{Image}
 use Rattle.image_map.specs.Names.{value_of}
 use Rattle.image_map.specs.Queries.{is_code}
-use Rattle.elf32.specs.Loading.{Loads}
 use Rattle.command_words.specs.declared.line.Entry.{Entry}
 use Rattle.command_words.specs.declared.line.Entry.TheVariants as entries
 
@@ -13,16 +12,11 @@ entry_place image None = Some image.entry
 entry_place image (Some (entries.Address at)) = Some at
 entry_place image (Some (entries.Symbol name)) = value_of image.symbols name
 
--- the file has this image, which is entered in code at this place
-pub record Enters (file : List ℕ) (entry : Option Entry) (image : Image) (place : ℕ) : Type 0 where
-  pub loads : Loads file image
+-- the image is entered in code, at this place
+pub record Enters (image : Image) (entry : Option Entry) (place : ℕ) : Type 0 where
   pub finds : entry_place image entry ≡ Some place
   pub enters : is_code image place ≡ true
 
 -- no symbol has the name, or the place isn't code
 abbrev pub IsNoEntry : Image → Option Entry → Type 0
 IsNoEntry image entry = MatchOption (entry_place image entry) (Unit {0}) (λ place. is_code image place ≡ false)
-
--- the image of the file isn't entered in code
-abbrev pub LacksEntry : List ℕ → Option Entry → Type 0
-LacksEntry file entry = (image : Image) × Loads file image × IsNoEntry image entry

@@ -1,9 +1,10 @@
 pub mod Listing
 pub mod Words
+pub mod Settings
 pub mod Tracing
 pub mod Entry
 pub mod Once
 pub mod Answer
 pub mod OneAnswer
+pub mod Starts
 pub mod RunReply
-pub mod Straight

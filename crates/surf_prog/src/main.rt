@@ -9,8 +9,7 @@ mod line;
 mod list;
 mod refusal;
 mod request;
-mod straight;
-mod text;
+mod settings;
 mod tracing;
 mod words;
 

@@ -3,7 +3,7 @@ ghost use Rattle.std.specs.Prelude.{◌≡◌, ◌≤◌, ◌++◌, ◌∷◌, O
 ghost use Rattle.std.specs.Fmt.{decimal};
 ghost use Rattle.surf_base.specs.Faults.{Rose};
 ghost use Rattle.surf_base.specs.Sink.{Appends, AppendsPart};
-ghost use Rattle.surf_prog.specs.Once.{TellsLine, numbers_text, numbered_line, image_line};
+ghost use Rattle.surf_prog.specs.Once.{TellsLine, numbers_text, numbered_line, image_line, round_line};
 ghost use Rattle.surf_prog.specs.Answer.{line_of, status_of};
 
 use crate::line::Line;
@@ -23,8 +23,8 @@ pub enum Refusal {
     Image(ElfError),
     /// The image isn't entered in code.
     Entry,
-    /// The code isn't straight from this place on.
-    Unsupported(u32),
+    /// The round of this number comes after the last.
+    Round(u32),
     /// Nothing stands at the address that was named.
     Absent(u32),
     Output,
@@ -121,6 +121,15 @@ fn complain_of_image<E: Sink>(cause: ElfError, err: &mut E)
     }
 }
 
+// Tells which round comes after the last.
+fn tell_round<E: Sink>(number: u32, err: &mut E)
+    ensures { TellsLine (E.written err.old) (E.written err.new) (E.faults err.old) (E.faults err.new) (round_line number) }
+{
+    let mut buffer = Buffer::new();
+    let digits = buffer.format(number).as_bytes();
+    tell(err, b"surf: absent round ", digits, b"\n");
+}
+
 // Tells the line of a refusal piece by piece.
 fn tell_refusal<E: Sink>(refusal: &Refusal, err: &mut E)
     ensures { TellsLine (E.written err.old) (E.written err.new) (E.faults err.old) (E.faults err.new) (line_of refusal.now) }
@@ -136,7 +145,7 @@ fn tell_refusal<E: Sink>(refusal: &Refusal, err: &mut E)
         ),
         Refusal::Image(cause) => complain_of_image(*cause, err),
         Refusal::Entry => tell(err, b"surf: absent entry", b"", b"\n"),
-        Refusal::Unsupported(at) => tell(err, b"surf: unsupported ", &hex8(*at), b"\n"),
+        Refusal::Round(number) => tell_round(*number, err),
         Refusal::Absent(at) => tell(err, b"surf: absent ", &hex8(*at), b"\n"),
         Refusal::Output => tell(err, b"surf: output", b"", b"\n"),
         Refusal::Memory => tell(err, b"surf: memory", b"", b"\n"),
@@ -164,9 +173,8 @@ pub fn status(refusal: &Refusal) -> u8
         Refusal::Words => 2,
         Refusal::Shelf(_) | Refusal::TooLong(_) => 3,
         Refusal::Image(_) => 4,
-        Refusal::Entry | Refusal::Absent(_) => 5,
+        Refusal::Entry | Refusal::Round(_) | Refusal::Absent(_) => 5,
         Refusal::Output => 6,
         Refusal::Memory => 7,
-        Refusal::Unsupported(_) => 9,
     }
 }

@@ -18,6 +18,81 @@ const TWO: &str = "\
 00 90 04 08 03 00 00 00 03 00 00 00 05 00 00 00 01 00 00 00 01 00 00 00 77 00 00 00 03 90 04 08 \
 03 90 04 08 03 00 00 00 03 00 00 00 05 00 00 00 01 00 00 00 B8 05 00 00 00 C3";
 
+/// The front of a file with one segment of code at 08049000, where it is entered; the code follows.
+const CODE: &str = "\
+7F 45 4C 46 01 01 01 00 00 00 00 00 00 00 00 00 02 00 03 00 01 00 00 00 00 90 04 08 34 00 00 00 \
+00 00 00 00 00 00 00 00 34 00 20 00 01 00 00 00 00 00 00 00 01 00 00 00 54 00 00 00 00 90 04 08 \
+00 90 04 08 00 00 00 00 00 00 00 00 05 00 00 00 01 00 00 00";
+
+/// The front of a file with a table of jumps at 0804A000.
+const TABLE: &str = "\
+7F 45 4C 46 01 01 01 00 00 00 00 00 00 00 00 00 02 00 03 00 01 00 00 00 00 90 04 08 34 00 00 00 \
+00 00 00 00 00 00 00 00 34 00 20 00 02 00 00 00 00 00 00 00 01 00 00 00 88 00 00 00 00 90 04 08 \
+00 90 04 08 00 00 00 00 00 00 00 00 05 00 00 00 01 00 00 00 01 00 00 00 74 00 00 00 00 A0 04 08 \
+00 A0 04 08 14 00 00 00 14 00 00 00 04 00 00 00 01 00 00 00 12 90 04 08 18 90 04 08 12 90 04 08 \
+18 90 04 08 12 90 04 08";
+
+/// Of a file with the text "hi" at 0804A000 and places of puts and exit at 0804C000.
+const PUTS_EXIT: &str = "\
+7F 45 4C 46 01 01 01 00 00 00 00 00 00 00 00 00 02 00 03 00 01 00 00 00 00 90 04 08 34 00 00 00 \
+94 00 00 00 00 00 00 00 34 00 20 00 03 00 28 00 04 00 00 00 01 00 00 00 82 01 00 00 00 90 04 08 \
+00 90 04 08 00 00 00 00 00 00 00 00 05 00 00 00 01 00 00 00 01 00 00 00 34 01 00 00 00 A0 04 08 \
+00 A0 04 08 03 00 00 00 03 00 00 00 04 00 00 00 01 00 00 00 01 00 00 00 00 00 00 00 00 C0 04 08 \
+00 C0 04 08 00 00 00 00 08 00 00 00 06 00 00 00 01 00 00 00 00 00 00 00 00 00 00 00 00 00 00 00 \
+00 00 00 00 00 00 00 00 00 00 00 00 00 00 00 00 00 00 00 00 01 00 00 00 00 00 00 00 00 00 00 00 \
+0B 00 00 00 00 00 00 00 00 00 00 00 42 01 00 00 30 00 00 00 02 00 00 00 00 00 00 00 01 00 00 00 \
+00 00 00 00 00 00 00 00 03 00 00 00 00 00 00 00 00 00 00 00 37 01 00 00 0B 00 00 00 00 00 00 00 \
+00 00 00 00 01 00 00 00 00 00 00 00 00 00 00 00 09 00 00 00 00 00 00 00 00 00 00 00 72 01 00 00 \
+10 00 00 00 01 00 00 00 00 00 00 00 01 00 00 00 00 00 00 00 68 69 00 00 70 75 74 73 00 65 78 69 \
+74 00 00 00 00 00 00 00 00 00 00 00 00 00 00 00 00 00 01 00 00 00 00 00 00 00 00 00 00 00 12 00 \
+00 00 06 00 00 00 00 00 00 00 00 00 00 00 12 00 00 00 00 C0 04 08 07 01 00 00 04 C0 04 08 07 02 \
+00 00";
+
+/// The same with puts alone.
+const PUTS: &str = "\
+7F 45 4C 46 01 01 01 00 00 00 00 00 00 00 00 00 02 00 03 00 01 00 00 00 00 90 04 08 34 00 00 00 \
+94 00 00 00 00 00 00 00 34 00 20 00 03 00 28 00 04 00 00 00 01 00 00 00 65 01 00 00 00 90 04 08 \
+00 90 04 08 00 00 00 00 00 00 00 00 05 00 00 00 01 00 00 00 01 00 00 00 34 01 00 00 00 A0 04 08 \
+00 A0 04 08 03 00 00 00 03 00 00 00 04 00 00 00 01 00 00 00 01 00 00 00 00 00 00 00 00 C0 04 08 \
+00 C0 04 08 00 00 00 00 04 00 00 00 06 00 00 00 01 00 00 00 00 00 00 00 00 00 00 00 00 00 00 00 \
+00 00 00 00 00 00 00 00 00 00 00 00 00 00 00 00 00 00 00 00 01 00 00 00 00 00 00 00 00 00 00 00 \
+0B 00 00 00 00 00 00 00 00 00 00 00 3D 01 00 00 20 00 00 00 02 00 00 00 00 00 00 00 01 00 00 00 \
+00 00 00 00 00 00 00 00 03 00 00 00 00 00 00 00 00 00 00 00 37 01 00 00 06 00 00 00 00 00 00 00 \
+00 00 00 00 01 00 00 00 00 00 00 00 00 00 00 00 09 00 00 00 00 00 00 00 00 00 00 00 5D 01 00 00 \
+08 00 00 00 01 00 00 00 00 00 00 00 01 00 00 00 00 00 00 00 68 69 00 00 70 75 74 73 00 00 00 00 \
+00 00 00 00 00 00 00 00 00 00 00 00 00 01 00 00 00 00 00 00 00 00 00 00 00 12 00 00 00 00 C0 04 \
+08 07 01 00 00";
+
+/// The same with malloc alone.
+const MALLOC: &str = "\
+7F 45 4C 46 01 01 01 00 00 00 00 00 00 00 00 00 02 00 03 00 01 00 00 00 00 90 04 08 34 00 00 00 \
+94 00 00 00 00 00 00 00 34 00 20 00 03 00 28 00 04 00 00 00 01 00 00 00 67 01 00 00 00 90 04 08 \
+00 90 04 08 00 00 00 00 00 00 00 00 05 00 00 00 01 00 00 00 01 00 00 00 34 01 00 00 00 A0 04 08 \
+00 A0 04 08 03 00 00 00 03 00 00 00 04 00 00 00 01 00 00 00 01 00 00 00 00 00 00 00 00 C0 04 08 \
+00 C0 04 08 00 00 00 00 04 00 00 00 06 00 00 00 01 00 00 00 00 00 00 00 00 00 00 00 00 00 00 00 \
+00 00 00 00 00 00 00 00 00 00 00 00 00 00 00 00 00 00 00 00 01 00 00 00 00 00 00 00 00 00 00 00 \
+0B 00 00 00 00 00 00 00 00 00 00 00 3F 01 00 00 20 00 00 00 02 00 00 00 00 00 00 00 01 00 00 00 \
+00 00 00 00 00 00 00 00 03 00 00 00 00 00 00 00 00 00 00 00 37 01 00 00 08 00 00 00 00 00 00 00 \
+00 00 00 00 01 00 00 00 00 00 00 00 00 00 00 00 09 00 00 00 00 00 00 00 00 00 00 00 5F 01 00 00 \
+08 00 00 00 01 00 00 00 00 00 00 00 01 00 00 00 00 00 00 00 68 69 00 00 6D 61 6C 6C 6F 63 00 00 \
+00 00 00 00 00 00 00 00 00 00 00 00 00 00 00 01 00 00 00 00 00 00 00 00 00 00 00 12 00 00 00 00 \
+C0 04 08 07 01 00 00";
+
+/// The same with read alone.
+const READ: &str = "\
+7F 45 4C 46 01 01 01 00 00 00 00 00 00 00 00 00 02 00 03 00 01 00 00 00 00 90 04 08 34 00 00 00 \
+94 00 00 00 00 00 00 00 34 00 20 00 03 00 28 00 04 00 00 00 01 00 00 00 65 01 00 00 00 90 04 08 \
+00 90 04 08 00 00 00 00 00 00 00 00 05 00 00 00 01 00 00 00 01 00 00 00 34 01 00 00 00 A0 04 08 \
+00 A0 04 08 03 00 00 00 03 00 00 00 04 00 00 00 01 00 00 00 01 00 00 00 00 00 00 00 00 C0 04 08 \
+00 C0 04 08 00 00 00 00 04 00 00 00 06 00 00 00 01 00 00 00 00 00 00 00 00 00 00 00 00 00 00 00 \
+00 00 00 00 00 00 00 00 00 00 00 00 00 00 00 00 00 00 00 00 01 00 00 00 00 00 00 00 00 00 00 00 \
+0B 00 00 00 00 00 00 00 00 00 00 00 3D 01 00 00 20 00 00 00 02 00 00 00 00 00 00 00 01 00 00 00 \
+00 00 00 00 00 00 00 00 03 00 00 00 00 00 00 00 00 00 00 00 37 01 00 00 06 00 00 00 00 00 00 00 \
+00 00 00 00 01 00 00 00 00 00 00 00 00 00 00 00 09 00 00 00 00 00 00 00 00 00 00 00 5D 01 00 00 \
+08 00 00 00 01 00 00 00 00 00 00 00 01 00 00 00 00 00 00 00 68 69 00 00 72 65 61 64 00 00 00 00 \
+00 00 00 00 00 00 00 00 00 00 00 00 00 01 00 00 00 00 00 00 00 00 00 00 00 12 00 00 00 00 C0 04 \
+08 07 01 00 00";
+
 /// Slices. In each row: the file, or its beginning with bytes from a place on; the words; which call of the shelf, of the output
 /// and of the error stream fails; the status; the lines of the output and of the error stream, with / between them.
 const SLICES: &str = "\
@@ -33,19 +108,49 @@ sum @24 0F|slice a --at 0x0804900c --round 0|,,|5||surf: absent entry
 sum @24 0E|slice a --at 0x0804900c --round 0|,,|5||surf: absent 0804900c
 two @68 02 00 00 00 02 @88 76 @92 02 90 04 08 02 90 04 08 03 00 00 00 03 @116 89 C1 01 CA C3|slice a --at 0x08049002 --round 0|,,|0|slice 08049002 round 0 lane 2/08049000/08049002/end 2 addresses 0 warnings|";
 
-/// Where code isn't straight.
-const STRAIGHT: &str = "\
-sum @68 02 00 00 00 02 @84 C3 FF|slice a --at 0x08049000 --round 0|,,|0|slice 08049000 round 0 lane 2/08049000/end 1 addresses 0 warnings|
-sum @68 03 00 00 00 03 @84 01 C0 C3|slice a --at 0x08049000 --round 0|,,|0|slice 08049000 round 0 lane 2/08049000/end 1 addresses 0 warnings|
-sum @68 05 00 00 00 05 @84 B8 05 00 00 00|slice a --at 0x08049000 --round 0|,,|9||surf: unsupported 08049005
-sum @68 04 00 00 00 04 @84 B8 05 00 00|slice a --at 0x08049000 --round 0|,,|9||surf: unsupported 08049000
-sum @68 03 00 00 00 03 @84 89 C4 C3|slice a --at 0x08049000 --round 0|,,|9||surf: unsupported 08049000
-sum @68 05 00 00 00 05 @84 89 C1 01 E0 C3|slice a --at 0x08049000 --round 0|,,|9||surf: unsupported 08049002
-sum @68 05 00 00 00 05 @84 89 C1 89 45 F8|slice a --at 0x08049000 --round 0|,,|9||surf: unsupported 08049002
-sum @68 04 00 00 00 04 @84 66 89 C1 C3|slice a --at 0x08049000 --round 0|,,|9||surf: unsupported 08049000
-sum @68 04 00 00 00 04 @84 89 C1 90 C3|slice a --at 0x08049000 --round 0|,,|9||surf: unsupported 08049002
-sum @68 04 00 00 00 04 @84 89 C1 50 C3|slice a --at 0x08049000 --round 0|,,|9||surf: unsupported 08049002
-sum @68 06 00 00 00 06 @84 BC 05 00 00 00 C3|slice a --at 0x08049000 --round 0|,,|9||surf: unsupported 08049000";
+/// Questions on rounds.
+const ROUNDS: &str = "\
+code B8 05 00 00 00 BB 07 00 00 00 89 C1 01 D9 C3|slice a --at 0x0804900c --round 0|,,|0|slice 0804900c round 0 lane 2/08049000/08049005/0804900a/0804900c/end 4 addresses 0 warnings|
+code B8 05 00 00 00 BB 07 00 00 00 89 C1 01 D9 C3|slice a --at 0x0804900a --round 0|,,|0|slice 0804900a round 0 lane 2/08049000/0804900a/end 2 addresses 0 warnings|
+code B8 05 00 00 00 31 C0 89 C1 C3|slice a --at 0x08049007 --round 0|,,|0|slice 08049007 round 0 lane 2/08049000/08049005/08049007/end 3 addresses 0 warnings|
+code B8 00 01 00 00 B0 01 89 C1 C3|slice a --at 0x08049007 --round 0|,,|0|slice 08049007 round 0 lane 2/08049000/08049005/08049007/end 3 addresses 0 warnings|
+code 85 C0 74 07 B9 01 00 00 00 EB 05 B9 02 00 00 00 89 CA 89 DE C3|slice a --at 0x08049010 --round 0|,,|0|slice 08049010 round 0 lane 2/08049000/08049002/08049004/0804900b/08049010/end 5 addresses 0 warnings|
+code 85 C0 74 07 B9 01 00 00 00 EB 05 B9 02 00 00 00 89 CA 89 DE C3|slice a --at 0x08049012 --round 0|,,|0|slice 08049012 round 0 lane 2/08049012/end 1 addresses 0 warnings|
+code 31 C9 83 EC 28 89 0C 8C 41 83 F9 0A 7C F7 83 C4 28 C3|slice a --at 0x08049005 --round 0|,,|0|slice 08049005 round 0 lane 2/08049000/08049002/08049005/08049008/08049009/0804900c/end 6 addresses 0 warnings|
+code 31 C9 83 EC 28 89 0C 8C 41 83 F9 0A 7C F7 83 C4 28 C3|values a --at 0x08049005 --round 0|,,|0|values 08049005 round 0 lane 2/node 08049000 - 08049005/eax top/ecx global:1[0,9]/edx top/ebx top/esp frame.08049000:0[-40,-40]/ebp top/esi top/edi top/end 1 nodes 0 warnings|
+code 31 C9 83 EC 28 89 0C 8C 41 83 F9 0A 7E F7 83 C4 28 C3|slice a --at 0x08049011 --round 0|,,|1|slice 08049011 round 0 lane 2/08049000/08049002/08049005/08049008/08049009/0804900c/0804900e/08049011/end 8 addresses 1 warnings/warnings round 0 lane 2/warning ReturnSlot 08049005/end 1 warnings|
+table 83 F8 04 77 07 FF 24 85 00 A0 04 08 B9 00 00 00 00 C3 B9 01 00 00 00 C3 B9 02 00 00 00 C3|slice a --at 0x08049012 --round 0|,,|5||surf: absent 08049012
+table 83 F8 04 77 07 FF 24 85 00 A0 04 08 B9 00 00 00 00 C3 B9 01 00 00 00 C3 B9 02 00 00 00 C3|slice a --at 0x08049005 --round 0|,,|1|slice 08049005 round 0 lane 2/08049000/08049003/08049005/end 3 addresses 1 warnings/warnings round 0 lane 2/warning UnresolvedJump 08049005/end 1 warnings|
+table 83 F8 04 77 07 FF 24 85 00 A0 04 08 B9 00 00 00 00 C3 B9 01 00 00 00 C3 B9 02 00 00 00 C3|slice a --at 0x08049012 --round 1|,,|0|slice 08049012 round 1 lane 2/08049000/08049003/08049005/08049012/end 4 addresses 0 warnings|
+code 8D 4C 24 04 83 E4 F0 FF 71 FC 55 89 E5 51 83 EC 04 B8 00 00 00 00 8B 4D FC C9 8D 61 FC C3|values a --at 0x0804901d --round 0|,,|0|values 0804901d round 0 lane 2/node 08049000 - 0804901d/eax global:0[0,0]/ecx frame.08049000:0[4,4]/edx top/ebx top/esp frame.08049000:0[0,0]/ebp top/esi top/edi top/end 1 nodes 0 warnings|
+puts_exit 68 00 A0 04 08 E8 16 00 00 00 83 C4 04 6A 00 E8 12 00 00 00 CC CC CC CC CC CC CC CC CC CC CC CC FF 25 00 C0 04 08 FF 25 04 C0 04 08|slice a --at 0xf0000000 --skip-sp --round 0|,,|0|slice f0000000 round 0 lane 2/08049000/08049005/f0000000/end 3 addresses 0 warnings|
+code 6A 01 E8 19 00 00 00 83 C4 04 6A 02 E8 0F 00 00 00 83 C4 04 89 C1 C3 CC CC CC CC CC CC CC CC CC 8B 44 24 04 C3|slice a --at 0x08049014 --skip-sp --round 0 --lane 1|,,|0|slice 08049014 round 0 lane 1/0804900a/08049014/08049020/end 3 addresses 0 warnings|
+code 6A 01 E8 19 00 00 00 83 C4 04 6A 02 E8 0F 00 00 00 83 C4 04 89 C1 C3 CC CC CC CC CC CC CC CC CC 8B 44 24 04 C3|slice a --at 0x08049014 --skip-sp --round 0 --lane 0|,,|0|slice 08049014 round 0 lane 0/08049000/0804900a/08049014/08049020/end 4 addresses 0 warnings|
+code E8 0B 00 00 00 C7 00 01 00 00 00 C3 CC CC CC CC 8D 44 24 FC C3|slice a --at 0x08049005 --round 0|,,|1|slice 08049005 round 0 lane 2/08049000/08049005/08049010/end 3 addresses 1 warnings/warnings round 0 lane 2/warning UnknownWrite 08049005/end 1 warnings|
+code 6A 03 E8 09 00 00 00 83 C4 04 C3 CC CC CC CC CC 8B 44 24 04 83 F8 01 7E 0D 48 50 E8 F0 FF FF FF 0F AF 44 24 08 59 C3|slice a --at 0x0804901a --skip-sp --round 0|,,|0|slice 0804901a round 0 lane 2/08049000/08049010/08049014/08049017/08049019/0804901a/end 6 addresses 0 warnings|
+malloc 6A 0C FF 15 00 C0 04 08 83 C4 04 C7 40 0C 01 00 00 00 C3|slice a --at 0x0804900b --skip-sp --round 0|,,|1|slice 0804900b round 0 lane 2/08049000/08049002/0804900b/f0000000/end 4 addresses 1 warnings/warnings round 0 lane 2/warning HeapOverrun 0804900b/end 1 warnings|
+malloc 6A 0C FF 15 00 C0 04 08 83 C4 04 C7 40 08 01 00 00 00 C3|slice a --at 0x0804900b --skip-sp --round 0|,,|0|slice 0804900b round 0 lane 2/08049000/08049002/0804900b/f0000000/end 4 addresses 0 warnings|
+malloc 50 90 FF 15 00 C0 04 08 83 C4 04 C7 40 08 01 00 00 00 C3|slice a --at 0x0804900b --skip-sp --round 0|,,|1|slice 0804900b round 0 lane 2/08049000/08049002/0804900b/f0000000/end 4 addresses 1 warnings/warnings round 0 lane 2/warning HeapOverrun 0804900b/end 1 warnings|
+code A3 00 10 00 B0 C3|slice a --at 0x08049000 --round 0|,,|1|slice 08049000 round 0 lane 2/08049000/end 1 addresses 1 warnings/warnings round 0 lane 2/warning UnknownWrite 08049000/end 1 warnings|
+code A3 00 00 00 00 C3|slice a --at 0x08049000 --round 0|,,|0|slice 08049000 round 0 lane 2/08049000/end 1 addresses 0 warnings|
+code B8 05 00 00 00 BB 07 00 00 00 89 C1 01 D9 C3|slice a --at 0x0804900c --round 7|,,|5||surf: absent round 7
+code B8 05 00 00 00 BB 07 00 00 00 89 C1 01 D9 C3|slice a --at 0x0804900c|,,|0|slice 0804900c round 1 lane 2/08049000/08049005/0804900a/0804900c/end 4 addresses 0 warnings|
+puts 8D 4C 24 04 83 E4 F0 FF 71 FC 55 89 E5 51 83 EC 14 C7 45 F4 00 00 00 00 C7 45 F0 00 00 00 00 EB 0A 8B 45 F0 01 45 F4 83 45 F0 01 83 7D F0 09 7E F0 83 EC 0C 68 00 A0 04 08 E8 22 00 00 00 83 C4 10 8B 45 F4 8B 4D FC C9 8D 61 FC C3 CC CC CC CC CC CC CC CC CC CC CC CC CC CC CC CC CC CC CC CC FF 25 00 C0 04 08|slice a --at 0x08049041 --skip-sp --round 0|,,|0|slice 08049041 round 0 lane 2/0804900b/08049011/08049018/08049021/08049024/08049027/0804902b/0804902f/08049041/end 9 addresses 0 warnings|
+table 83 F8 04 77 07 FF 24 85 00 A0 04 08 B9 00 00 00 00 C3 B9 01 00 00 00 C3 B9 02 00 00 00 C3|locations a --round 1|,,|0|locations round 1 lane 2/global 08049000 0804901e/global 0804a000 0804a004/global 0804a004 0804a008/global 0804a008 0804a00c/global 0804a00c 0804a010/global 0804a010 0804a014/frame 08049000 -1048576 0/frame 08049000 0 4/frame 08049000 4 65536/end 9 cells 0 warnings|
+code B8 05 00 00 00 C3|graph a --round 0|,,|0|{\"control\":[],\"edges\":[],\"lane\":2,\"nodes\":[{\"at\":134516736,\"proc\":134516736,\"sites\":[]},{\"at\":134516741,\"proc\":134516736,\"sites\":[]}],\"round\":0,\"sp\":[]}|
+malloc 6A 08 FF 15 00 C0 04 08 83 C4 04 85 C0 74 09 C7 00 07 00 00 00 8B 08 90 C3|values a --at 0x08049017 --round 0|,,|0|values 08049017 round 0 lane 2/node 08049000 - 08049017/eax heap.08049002:0[0,0]/ecx global:0[7,7]/edx top/ebx top/esp frame.08049000:0[0,0]/ebp top/esi top/edi top/end 1 nodes 0 warnings|
+code 31 C0 B9 0A 00 00 00 83 EC 28 89 E7 F3 AB 8B 14 24 83 C4 28 C3|values a --at 0x08049011 --round 0|,,|0|values 08049011 round 0 lane 2/node 08049000 - 08049011/eax global:0[0,0]/ecx global:0[0,0]/edx global:0[0,0]/ebx top/esp frame.08049000:0[-40,-40]/ebp top/esi top/edi frame.08049000:0[0,0]/end 1 nodes 0 warnings|
+code 31 C0 B9 0A 00 00 00 83 EC 28 89 E7 F3 AB 8B 14 24 83 C4 28 C3|slice a --at 0x0804900e --round 0|,,|0|slice 0804900e round 0 lane 2/08049000/08049002/08049007/0804900a/0804900c/0804900e/end 6 addresses 0 warnings|
+code 31 C0 B9 0B 00 00 00 83 EC 28 89 E7 F3 AB 8B 14 24 83 C4 28 C3|slice a --at 0x0804900c --round 0|,,|1|slice 0804900c round 0 lane 2/08049000/08049002/08049007/0804900a/0804900c/end 5 addresses 1 warnings/warnings round 0 lane 2/warning ReturnSlot 0804900c/end 1 warnings|
+read 83 EC 10 89 E0 6A 10 50 6A 00 FF 15 00 C0 04 08 8B 44 24 0C 83 C4 1C C3|slice a --at 0x08049010 --skip-sp --round 0|,,|0|slice 08049010 round 0 lane 2/08049003/08049005/08049007/08049008/0804900a/08049010/f0000000/end 7 addresses 0 warnings|
+code B8 05 00 00 00 BB 07 00 00 00 89 C1 01 D9 C3|forward a --at 0x08049000 --round 0|,,|0|forward 08049000 round 0 lane 2/08049000/0804900a/0804900c/end 3 addresses 0 warnings|
+code 85 C0 74 07 B9 01 00 00 00 EB 05 B9 02 00 00 00 89 CA 89 DE C3|forward a --at 0x08049000 --round 0|,,|0|forward 08049000 round 0 lane 2/08049000/08049002/08049004/08049009/0804900b/08049010/end 6 addresses 0 warnings|
+code B8 05 00 00 00 BB 07 00 00 00 89 C1 01 D9 C3|chop a --from 0x0804900c --at 0x08049000 --round 0|,,|0|chop 0804900c 08049000 round 0 lane 2/end 0 addresses 0 warnings|
+code 85 C0 74 07 B9 01 00 00 00 EB 05 B9 02 00 00 00 89 CA 89 DE C3|why a --from 0x08049000 --at 0x08049010 --round 0|,,|0|why 08049000 08049010 round 0 lane 2/08049000/data 08049002/control 08049004/data 08049010/end 3 steps 0 warnings|
+code B8 05 00 00 00 BB 07 00 00 00 89 C1 01 D9 C3|why a --from 0x08049001 --at 0x08049002 --round 0|,,|5||surf: absent 08049001
+code B8 05 00 00 00 BB 07 00 00 00 89 C1 01 D9 C3|chop a --from 0x08049000 --at 0x08049002 --round 0|,,|5||surf: absent 08049002
+code BB 01 00 00 00 E8 0D 00 00 00 BB 02 00 00 00 E8 03 00 00 00 89 D9 C3 90 C3|slice a --at 0x08049014 --lane 0 --round 0 --skip-sp|,,|0|slice 08049014 round 0 lane 0/08049000/0804900a/08049014/end 3 addresses 0 warnings|
+code BB 01 00 00 00 E8 0D 00 00 00 BB 02 00 00 00 E8 03 00 00 00 89 D9 C3 90 C3|matched a --at 0x08049014 --lane 0 --round 0 --skip-sp|,,|0|matched 08049014 round 0 lane 0/0804900a/08049014/end 2 addresses 0 warnings|";
 
 /// Faults of the outside.
 const FAULTS: &str = "\
@@ -60,11 +165,13 @@ sum|slice a --at 0x0804900c --round 0|1,,2|3||surf: shelf a";
 const REFUSED: &str = "\
 sum||,,|2||surf: words
 sum|slice a --round 0|,,|2||surf: words
-sum|slice a --at 0x1|,,|2||surf: words
-sum|slice a --at 0x1 --round 1|,,|2||surf: words
-sum|slice a --at 0x1 --round 0 --skip-sp|,,|2||surf: words
+sum|slice a --at 0x1|,,|5||surf: absent 00000001
+sum|slice a --at 0x1 --lane 4|,,|2||surf: words
+sum|chop a --at 0x1|,,|2||surf: words
+sum|gen 1 1|,,|2||surf: words
+sum|replay a t --at 0x1|,,|2||surf: words
 sum|slice a --at 12 --round 0|,,|2||surf: words
-sum|values a --at 0x1 --round 0|,,|2||surf: words
+sum|values a|,,|2||surf: words
 sum|trace a --extern puts|,,|2||surf: words
 sum|serve a s|,,|2||surf: words
 sum|nothing a|,,|2||surf: words
@@ -139,14 +246,39 @@ fn write(bytes: &mut Vec<u8>, text: &str) -> Result<(), AllocError> {
     Ok(())
 }
 
+/// The front of a file, behind which its code stands.
+fn front(base: &str) -> &str {
+    match base {
+        "table" => TABLE,
+        "puts_exit" => PUTS_EXIT,
+        "puts" => PUTS,
+        "malloc" => MALLOC,
+        "read" => READ,
+        _ => CODE,
+    }
+}
+
+/// A file of fewer than 256 bytes of code.
+fn coded(alloc: Global, base: &str, code: &str) -> Result<Vec<u8>, AllocError> {
+    let mut file = Vec::new(alloc);
+    write(&mut file, front(base))?;
+    let start = file.len();
+    write(&mut file, code)?;
+    let [len, ..] = file.len().wrapping_sub(start).to_le_bytes();
+    put(&mut file, 68, len)?;
+    put(&mut file, 72, len)?;
+    Ok(file)
+}
+
 /// The file of a row.
 fn file_of(alloc: Global, text: &str) -> Result<Vec<u8>, AllocError> {
     let (base, changes) = text.split_once(' ').unwrap_or((text, ""));
     let mut file = Vec::new(alloc);
     match base {
+        "" => {}
         "sum" => write(&mut file, SUM)?,
         "two" => write(&mut file, TWO)?,
-        _ => {}
+        _ => return coded(alloc, base, changes),
     }
     write(&mut file, changes)?;
     Ok(file)
@@ -219,7 +351,7 @@ fn holds(alloc: Global, row: &str) -> Result<bool, AllocError> {
 
 #[test]
 fn requests(rt: HostRuntime) -> Result<(), AllocError> {
-    for table in [SLICES, STRAIGHT, FAULTS, REFUSED, LISTS, TRACES] {
+    for table in [SLICES, ROUNDS, FAULTS, REFUSED, LISTS, TRACES] {
         for row in table.lines() {
             assert!(rt; holds(rt.alloc(), row)?, "{row}");
         }
@@ -246,23 +378,6 @@ fn moves(alloc: Global, count: u16) -> Result<Vec<u8>, AllocError> {
 #[test]
 fn long_code(rt: HostRuntime) -> Result<(), AllocError> {
     let alloc = rt.alloc();
-    let first = "slice a --at 0x08049000 --round 0";
-    let alone = "0|slice 08049000 round 0 lane 2/08049000/end 1 addresses 0 warnings|";
-    let full = "9||surf: unsupported 0804b000";
-    assert!(rt;
-        ends(
-            alloc,
-            &request(alloc, moves(alloc, 4095)?, first, ",,")?,
-            alone
-        )?
-    );
-    assert!(rt;
-        ends(
-            alloc,
-            &request(alloc, moves(alloc, 4096)?, first, ",,")?,
-            full
-        )?
-    );
     let list = request(alloc, moves(alloc, 1001)?, "list a", ",,")?;
     assert!(rt;
         list.out

@@ -1,16 +1,14 @@
 // The text of a run with the choices of a seed.
-ghost use Rattle.std.specs.Prelude.{◌≡◌, ◌<◌, ◌^◌, ◌++◌, if◌then◌else◌, Some, length, map, IfOk, OnOk};
-ghost use Rattle.std.specs.Str.{bytes_eq};
+ghost use Rattle.std.specs.Prelude.{◌≡◌, ◌<◌, ◌^◌, ◌++◌, length, IfOk, OnOk};
 ghost use Rattle.image_map.specs.Whole.{IsImage};
 ghost use Rattle.surf_prog.specs.Tracing as spec;
 
 use crate::dynamic::{Traced, dynamic_lines, push_number};
+use crate::settings::settings_of;
 use crate::words::RunOptions;
-use command_words::ExternKind;
 use dynamic_slices::depends_of;
 use ia32_run::{Finish, Occurrence, RunLog, trace};
-use image_map::{Extern, Image, Kind, Name, Settings};
-use item_list::Items;
+use image_map::Image;
 use std::alloc::{AllocError, Global};
 use surf_base::hex8;
 
@@ -32,143 +30,6 @@ fn seed_words(alloc: Global, count: usize, seed: u32) -> Result<Vec<u32>, AllocE
         words.push(word)?;
     }
     Ok(words)
-}
-
-fn ends_program(name: &Name) -> bool
-    ensures { result ≡ spec.ends_program name.now }
-{
-    name.is(b"exit") || name.is(b"_exit") || name.is(b"abort") || name.is(b"__stack_chk_fail")
-}
-
-fn reads_one_word(name: &Name) -> bool
-    ensures { result ≡ spec.reads_one_word name.now }
-{
-    name.is(b"free") || name.is(b"putchar") || name.is(b"srand")
-}
-
-fn reads_no_word(name: &Name) -> bool
-    ensures { result ≡ spec.reads_no_word name.now }
-{
-    name.is(b"getchar") || name.is(b"rand")
-}
-
-fn reads_text(name: &Name) -> bool
-    ensures { result ≡ spec.reads_text name.now }
-{
-    name.is(b"puts")
-        || name.is(b"printf")
-        || name.is(b"perror")
-        || name.is(b"strlen")
-        || name.is(b"atoi")
-}
-
-fn reads_two_texts(name: &Name) -> bool
-    ensures { result ≡ spec.reads_two_texts name.now }
-{
-    name.is(b"strcmp") || name.is(b"fputs")
-}
-
-// The kind of an extern with a name that isn't told.
-#[tactic(auto, unfolding(crate::specs::Tracing::known_kind))]
-fn known_kind(name: &Name) -> Kind
-    ensures { result ≡ spec.known_kind name.now }
-{
-    if ends_program(name) {
-        Kind::Stop
-    } else if name.is(b"malloc") {
-        Kind::Alloc
-    } else if reads_one_word(name) {
-        Kind::Pure(1)
-    } else if reads_no_word(name) {
-        Kind::Pure(0)
-    } else if reads_text(name) {
-        Kind::Reader(1)
-    } else if reads_two_texts(name) {
-        Kind::Reader(2)
-    } else if name.is(b"write") {
-        Kind::Reader(3)
-    } else if name.is(b"memset") {
-        Kind::Fills(1, 3)
-    } else if name.is(b"read") {
-        Kind::Fills(2, 3)
-    } else {
-        Kind::Unknown
-    }
-}
-
-// The kind of a part, where it has the name, and else the one before.
-fn kind_by(name: &Name, part: &ExternKind, found: Option<Kind>) -> Option<Kind>
-    ensures { result ≡ (if bytes_eq name.now part.now.name then Some part.now.kind else found) }
-{
-    if name.is(part.name.as_str().as_bytes()) {
-        Some(part.kind)
-    } else {
-        found
-    }
-}
-
-// The kind that the last part with a name gives.
-fn kind_named(name: &Name, parts: &[ExternKind]) -> Option<Kind>
-    ensures { result ≡ spec.kind_named name.now parts.now }
-{
-    let mut found = None;
-    let mut rest = parts;
-    'parts_left: while let Some((part, after)) = rest.split_first() {
-        found = kind_by(name, part, found);
-        rest = after;
-    }
-    found
-}
-
-fn is_kind(kind: &Kind) -> bool
-    ensures { result ≡ spec.is_kind kind.now }
-{
-    match kind {
-        Kind::Pure(words) => *words <= 8,
-        Kind::Reader(words) => *words <= 8,
-        Kind::Alloc | Kind::Stop | Kind::Unknown => true,
-        Kind::Fills(buffer, len) => 1 <= *buffer && *buffer <= 8 && 1 <= *len && *len <= 8,
-    }
-}
-
-// The kind of an extern, by these parts or else by its name alone.
-fn kind_of(parts: &[ExternKind], named: &Extern) -> Kind
-    ensures { result ≡ spec.kind_of parts.now named.now }
-{
-    match kind_named(&named.name, parts) {
-        None => known_kind(&named.name),
-        Some(kind) => { if is_kind(&kind) { kind } else { Kind::Unknown } }
-    }
-}
-
-fn kinds_of(
-    alloc: Global,
-    parts: &[ExternKind],
-    externs: &[Extern],
-) -> Result<Items<Kind>, AllocError>
-    ensures { IfOk result (λ kinds. kinds ≡ map (spec.kind_of parts.now) externs.now) }
-{
-    let mut kinds = Items::new(alloc);
-    for named in externs {
-        kinds.push(kind_of(parts, named))?;
-    }
-    Ok(kinds)
-}
-
-// What is settled of a run that begins at a place.
-fn settings_of(
-    alloc: Global,
-    image: &Image,
-    place: u32,
-    parts: &[ExternKind],
-) -> Result<Settings, AllocError>
-    ensures { IfOk result (λ settings. settings ≡ spec.settings_of image.now place parts.now) }
-{
-    Ok(Settings {
-        entry: place,
-        rounds: 1,
-        kinds: kinds_of(alloc, parts, image.externs.as_slice())?,
-    })
 }
 
 fn finish_name<'a>(finish: Finish) -> &'a [u8]
@@ -274,7 +135,7 @@ pub fn tracing(
     requires { IsImage image.now }
     ensures { IfOk result (λ traced. spec.Tells image.now place options.now traced) }
 {
-    let settings = settings_of(alloc, image, place, options.externs.as_slice())?;
+    let settings = settings_of(alloc, image, place, 1, options.externs.as_slice())?;
     let count = 8 * (options.steps as usize + 2);
     let words = seed_words(alloc, count, options.seed)?;
     let log = trace(alloc, image, &settings, &words, options.steps)?;

@@ -1,7 +1,7 @@
 use Rattle.std.proofs.Common.{List, [], ◌∷◌, ◌++◌, ℕ, refl, ap, ◌∙◌}
 use Rattle.std.specs.Prelude.{codes}
 use Rattle.surf_prog.specs.declared.refusal.Refusal.TheVariants as refusal
-use Rattle.surf_prog.specs.Once.{TellsLine, image_line, entry_line, output_line, memory_line}
+use Rattle.surf_prog.specs.Once.{TellsLine, image_line, entry_line, round_line, output_line, memory_line}
 use Rattle.surf_prog.proofs.RefusalLaws.{told_of}
 use Rattle.surf_prog.proofs.refusal.tell_refusal.Goals as goal
 
@@ -27,17 +27,16 @@ returns-in-Entry g c = told_of
     (TellsLine (g.E.Sink.written c.args.err.now) (g.E.Sink.written c.tell-in-Entry.new.err) (g.E.Sink.faults c.args.err.now) (g.E.Sink.faults c.tell-in-Entry.new.err))
     c.args.refusal.now refusal.Entry entry_line c.in-Entry.is refl c.tell-in-Entry.ensures
 
-pub returns-in-Unsupported : goal.returns-in-Unsupported
-returns-in-Unsupported g c = told_of
-    (TellsLine (g.E.Sink.written c.args.err.now) (g.E.Sink.written c.tell-in-Unsupported.new.err) (g.E.Sink.faults c.args.err.now) (g.E.Sink.faults c.tell-in-Unsupported.new.err))
-    c.args.refusal.now (refusal.Unsupported c.in-Unsupported.at) (codes "surf: unsupported " ++ (c.hex8.result ++ 10 ∷ [])) c.in-Unsupported.is
-    (ap (λ (l : List ℕ). codes "surf: unsupported " ++ (l ++ 10 ∷ [])) c.hex8.ensures.digits) c.tell-in-Unsupported.ensures
+pub returns-in-Round : goal.returns-in-Round
+returns-in-Round g c = told_of
+    (TellsLine (g.E.Sink.written c.args.err.now) (g.E.Sink.written c.tell_round.new.err) (g.E.Sink.faults c.args.err.now) (g.E.Sink.faults c.tell_round.new.err))
+    c.args.refusal.now (refusal.Round c.in-Round.number) (round_line c.in-Round.number) c.in-Round.is refl c.tell_round.ensures
 
 pub returns-in-Absent : goal.returns-in-Absent
 returns-in-Absent g c = told_of
     (TellsLine (g.E.Sink.written c.args.err.now) (g.E.Sink.written c.tell-in-Absent.new.err) (g.E.Sink.faults c.args.err.now) (g.E.Sink.faults c.tell-in-Absent.new.err))
-    c.args.refusal.now (refusal.Absent c.in-Absent.at) (codes "surf: absent " ++ (c.hex8-in-Absent.result ++ 10 ∷ [])) c.in-Absent.is
-    (ap (λ (l : List ℕ). codes "surf: absent " ++ (l ++ 10 ∷ [])) c.hex8-in-Absent.ensures.digits) c.tell-in-Absent.ensures
+    c.args.refusal.now (refusal.Absent c.in-Absent.at) (codes "surf: absent " ++ (c.hex8.result ++ 10 ∷ [])) c.in-Absent.is
+    (ap (λ (l : List ℕ). codes "surf: absent " ++ (l ++ 10 ∷ [])) c.hex8.ensures.digits) c.tell-in-Absent.ensures
 
 pub returns-in-Output : goal.returns-in-Output
 returns-in-Output g c = told_of

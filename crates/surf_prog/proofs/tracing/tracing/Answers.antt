@@ -2,11 +2,12 @@ use Rattle.std.proofs.Common.{◌+◌, ◌*◌, ◌∙◌, List, ℕ, length, sy
 use Rattle.ia32_run.specs.declared.log.Occurrence.{Occurrence}
 use Rattle.dynamic_slices.specs.Slices.{DependOnEarlier}
 use Rattle.dynamic_slices.proofs.SliceLaws.{told_slices_are_dynamic}
-use Rattle.surf_prog.proofs.TracingLaws.{seeds_long, are_known, few_steps}
+use Rattle.surf_prog.proofs.SettingsLaws.{are_known}
+use Rattle.surf_prog.proofs.TracingLaws.{seeds_long, few_steps}
 use Rattle.surf_prog.proofs.tracing.tracing.Goals as goal
 
 pub trace-requires-clause-known : goal.trace-requires-clause-known
-trace-requires-clause-known c = are_known c.args.image.now c.args.place c.as_slice.result.now c.in_ok-settings.settings c.in_ok-settings.ensures
+trace-requires-clause-known c = are_known c.args.image.now c.args.place 1 c.as_slice.result.now c.in_ok-settings.settings c.in_ok-settings.ensures
 
 pub trace-requires-clause-enough : goal.trace-requires-clause-enough
 trace-requires-clause-enough c =
