@@ -1,0 +1,3 @@
+pub mod WalkLemmas
+pub mod StartLemmas
+pub mod ExampleLemmas
