@@ -3,7 +3,7 @@ ghost use Rattle.std.specs.Prelude.{◌≡◌, ◌≤ℤ◌, ◌∷◌, [], pos,
 ghost use Rattle.image_map.specs.Whole.{IsImage};
 ghost use Rattle.access_facts.specs.Rows.{AreInside};
 
-use super::{graph_json, locations_text, reading, values_text, warnings_text};
+use super::{graph_json, locations_text, push_addresses, reading, values_text, warnings_text};
 use abs_state::{AbsState, Registers};
 use abs_steps::WarnName;
 use alocs::{Cells, CutList};
@@ -264,5 +264,13 @@ fn readings(rt: HostRuntime) -> Result<(), Fail> {
         let text = reading(rt.alloc(), &round, &request)?.unwrap_or(Vec::new(rt.alloc()));
         assert_eq!(rt; text.iter().filter(|byte| **byte == b'\n').count(), lines);
     }
+    Ok(())
+}
+
+#[test]
+fn addresses(rt: HostRuntime) -> Result<(), Fail> {
+    let mut text = Vec::new(rt.alloc());
+    push_addresses(&mut text, &[0x0804_9000, 0xF000_0000])?;
+    assert_eq!(rt; text.as_slice(), b"08049000\nf0000000\n".as_slice());
     Ok(())
 }
