@@ -20,7 +20,7 @@ RULES = [
     (r'round_core|round_slots', r'ia32_\w+|image_map|elf32|flow_graph|dep_graph|slicer',
      'the store of rounds holds values of any type'),
     (r'ia32_types|ia32_decode|ia32_print', r'elf32|image_map', 'instructions are bytes, wherever they stand'),
-    (r'(?!surf_prog$|reading_tests$)\w+', r'elf32', 'only the program reads files'),
+    (r'(?!surf_prog$|generator$|reading_tests$|answer_tests$)\w+', r'elf32', 'only the program reads files, and the generator makes them'),
     (r'(?!surf_prog$)\w+', r'surf_prog', 'nothing stands on the program'),
     (r'\w+', r'reading_tests', 'nothing stands on tests'),
 ]
