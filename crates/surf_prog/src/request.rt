@@ -293,8 +293,8 @@ pub fn once<F: Shelf, K: Sink, E: Sink>(
     // It was written by one call a line.
     ensures lines { IsAnswered result → WritesReply (map string_bytes words.now) (F.file shelf.old) (λ text. WritesLines K.written K.faults out.old text out.new) }
 
-    // At status 0, wherever in a run of the file's image an occurrence at the criterion depends on another, the reply to a slice has that
-    // one's address.
+    // At status 0 the reply tells of each run of the file's image: wherever an occurrence depends on another, a slice of the one's address
+    // has the other's, and a forward slice, a chop and a path tell of it likewise.
     ensures dependences { result ≡ 0 → WritesDependences (map string_bytes words.now) (F.file shelf.old) (K.written out.old) (K.written out.new) }
 
     // 1 exactly where the round that was asked for has warnings.
