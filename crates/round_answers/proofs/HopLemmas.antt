@@ -1,6 +1,5 @@
 -- The hops along the shortest path are one list.
 use Rattle.std.proofs.Common.{◌≡◌, ⊎_elim, ℕ, Option, Some, None, List, [], ◌∷◌, reverse, refl, sym, subst, ap, ◌∙◌}
-use Rattle.std.specs.Prelude.{slice_get, IsSomeAnd}
 use Rattle.std.proofs.lemmas.List.{reverse-reverse}
 use Rattle.flow_graph.specs.declared.graph.FlowNode.{FlowNode}
 use Rattle.flow_graph.specs.FlowGraph.{IsAt}
@@ -10,14 +9,7 @@ use Rattle.chops.specs.declared.hops.HopKind.{HopKind}
 use Rattle.chops.specs.declared.hops.HopKind.TheVariants.{First, ByPlace, ByBranch}
 use Rattle.chops.specs.Hops.{AreHops, IsHop, IsKind, IsPath, IsWhy, first_of}
 use Rattle.chops.proofs.PathLemmas.{one_shortest}
-
--- a node has one address
-one_address : (g : List FlowNode) (n a b : ℕ) → IsAt g a n → IsAt g b n → a ≡ b
-one_address g n a b h k = of_node (slice_get g n) h k
-  where
-    of_node : (o : Option FlowNode) → IsSomeAnd o (λ node. node.at ≡ a) → IsSomeAnd o (λ node. node.at ≡ b) → a ≡ b
-    of_node None h k = absurd h
-    of_node (Some node) h k = sym h ∙ k
+use Rattle.slice_soundness.proofs.ControlLemmas.{one_address}
 
 one_kind : (Edge : ℕ → ℕ → Type 0) (before : Option ℕ) (n : ℕ) (a b : HopKind) → IsKind Edge before n a → IsKind Edge before n b → a ≡ b
 one_kind Edge None n First First h k = refl
