@@ -1,7 +1,8 @@
 -- How what a seat says of a lane grows over several steps.
-use Rattle.std.proofs.Common.{◌≡◌, ℕ, zero, suc, ◌+◌, ◌<◌, ◌≤◌, ◌==◌, ⊎_elim, Bool, true, false, cond, Option, Some, None, List, [], ◌∷◌, ◌++◌, set, refl, sym, ap, ◌∙◌, subst, arith, append_assoc, append-nil}
+use Rattle.std.proofs.Common.{◌≡◌, ℕ, ◌+◌, ◌<◌, ◌≤◌, ◌==◌, ⊎_elim, Bool, true, false, cond, Option, Some, None, List, [], ◌∷◌, ◌++◌, refl, sym, ap, ◌∙◌, subst, arith, append_assoc, append-nil}
 use Rattle.std.specs.List.{AllByRecursion}
 use Rattle.std.proofs.lemmas.Bool.{eqb-true}
+use Rattle.std.proofs.lemmas.List.{set-set}
 use Rattle.std.proofs.lemmas.Option.{none-some}
 use Rattle.round_core.specs.declared.word.Word.{Word}
 use Rattle.round_core.specs.Laws.{IsNoNewer}
@@ -22,14 +23,9 @@ use Rattle.service.specs.declared.shop.Shop.{Shop}
 use Rattle.service.specs.Seats.{key_of, SitsIn}
 use Rattle.service.specs.Steps.{grown, Grows, LooksOn, Publishes}
 
-set_again : {X : Type 0} (xs : List X) (i : ℕ) (a b : X) → set (set xs i a) i b ≡ set xs i b
-set_again [] i a b = refl
-set_again (x ∷ xs) zero a b = refl
-set_again (x ∷ xs) (suc i) a b = ap (λ ys. x ∷ ys) (set_again xs i a b)
-
 lane_again : (o : Option (Known RoundTag)) (lane : ℕ) (a b : LaneView) → with_lane (with_lane o lane a) lane b ≡ with_lane o lane b
 lane_again None lane a b = refl
-lane_again (Some v) lane a b = ap (λ ls. let w : Known RoundTag = record v { lanes = ls } in Some w) (set_again v.lanes lane a b)
+lane_again (Some v) lane a b = ap (λ ls. let w : Known RoundTag = record v { lanes = ls } in Some w) (set-set v.lanes lane a b)
 
 -- two changes of one lane are one
 pub becomes_twice : (old mid new : Place RoundTag) (lane : ℕ) (a b : LaneView) → Becomes old mid lane a → Becomes mid new lane b → Becomes old new lane b
