@@ -122,6 +122,37 @@ def parts(source, program, count):
     return "\n".join(kind(source, program) for kind in source.choices(kinds, weights, k=count))
 
 
+def recursive_text(source, program):
+    """A procedure that calls itself; in some programs it keeps a number in its frame meanwhile."""
+    n = program.number
+    if source.random() < 0.5:
+        return f"""recursive{n}: push ebp
+mov ebp, esp
+sub esp, 8
+mov eax, [ebp + 8]
+mov [ebp - 4], eax
+cmp eax, 1
+jle done{n}
+dec eax
+push eax
+call recursive{n}
+add esp, 4
+mov ecx, [ebp - 4]
+add eax, ecx
+mov [0x0804a00c], eax
+done{n}: leave
+ret"""
+    return f"""recursive{n}: mov eax, [esp + 4]
+cmp eax, 1
+jle done{n}
+dec eax
+push eax
+call recursive{n}
+{source.choice(['add esp, 4', 'pop ecx'])}
+{moved(source, program)}
+done{n}: ret"""
+
+
 def text_of(source, program):
     n, most = program.number, source.choice([6, 12, 25])
     frame = "push ebp\nmov ebp, esp\nsub esp, 24"
@@ -135,15 +166,7 @@ mov eax, [ebp + 8]
 {parts(source, program, source.randrange(1, most // 2))}
 leave
 {source.choice(['ret', 'ret', 'ret', 'ret 4'])}
-recursive{n}: mov eax, [esp + 4]
-cmp eax, 1
-jle done{n}
-dec eax
-push eax
-call recursive{n}
-{source.choice(['add esp, 4', 'pop ecx'])}
-{moved(source, program)}
-done{n}: ret
+{recursive_text(source, program)}
 end{n}:"""
 
 
