@@ -53,7 +53,7 @@ use Rattle.call_soundness.proofs.ValueLaws.{Stands, moved_value}
 
 -- -- The form of values that age
 
-renamed_form : (from to : RegionId) (ps into : List Part) → AreCanonical ps → AreCanonical into → AreCanonical (with_renamed from to ps into)
+pub renamed_form : (from to : RegionId) (ps into : List Part) → AreCanonical ps → AreCanonical into → AreCanonical (with_renamed from to ps into)
 unfolding with_renamed
 renamed_form from to [] into cp ci = ci
 renamed_form from to (x ∷ ps) into cp ci =

@@ -48,10 +48,11 @@ use Rattle.slice_soundness.proofs.LocatedLemmas.{live_has_node}
 use Rattle.slice_soundness.proofs.StateLemmas.{ready_after}
 use Rattle.call_soundness.specs.Maps.{IsListed, state_in}
 use Rattle.call_soundness.proofs.RowLaws.{abstract_steps}
+use Rattle.call_soundness.proofs.StayLaws.{listed_left, listed_right}
 use Rattle.access_facts.specs.Places.{procedures, keys_in, keys, nodes_of, states_of, graph_regions, graph_cells}
 use Rattle.graph_soundness.specs.Drawn.{number_in, map_drawn, drawn_of, division_of}
 use Rattle.graph_soundness.specs.Forms.{HaveCells}
-use Rattle.graph_soundness.proofs.CellPlaces.{listed_left, listed_right, listed_map, listed_flat, number_listed, offset_held, cell_among, place_there}
+use Rattle.graph_soundness.proofs.CellPlaces.{listed_map, listed_flat, number_listed, offset_held, cell_among, place_there}
 use Rattle.graph_soundness.proofs.SpotLaws.{thing_spot, spot_owner}
 use Rattle.graph_soundness.proofs.GraphLaws.{row_there}
 

@@ -1,5 +1,5 @@
 -- Whatever offset a region has lies in a cell, and the cells of a region that is listed have places.
-use Rattle.std.proofs.Common.{◌≡◌, inl, inr, ⊎_elim, ℕ, ◌+◌, ◌==◌, Bool, true, false, cond, ◌&&◌, ◌||◌, List, [], ◌∷◌, ◌++◌, map, Some, ℤ, refl, sym, ap, subst, ◌∙◌, eqb-true}
+use Rattle.std.proofs.Common.{◌≡◌, inl, inr, ⊎_elim, ℕ, ◌+◌, ◌==◌, Bool, true, false, cond, ◌&&◌, ◌||◌, List, [], ◌∷◌, map, Some, ℤ, refl, sym, ap, subst, ◌∙◌, eqb-true}
 use Rattle.std.specs.Prelude.{int_le, int_lt, nat_lt, ◌<ℤ◌, ◌≤ℤ◌}
 use Rattle.std.specs.List.{list_any, flat_map}
 use Rattle.std.proofs.lemmas.Bool.{false≢true, and_parts, and_from, or_left, or_right, or_cases, cond_both}
@@ -15,18 +15,10 @@ use Rattle.alocs.specs.Extents.{has_offset}
 use Rattle.alocs.proofs.CellLemmas.{int_lt_true, lt_int_lt}
 use Rattle.abs_semantics.specs.Joins.{with_number, numbers_of}
 use Rattle.call_soundness.specs.Maps.{IsListed}
+use Rattle.call_soundness.proofs.StayLaws.{listed_left, listed_right}
 use Rattle.graph_soundness.specs.Drawn.{place_in}
 
 -- -- What is in a list
-
-pub listed_left : {A : Type 0} (x : A) (xs ys : List A) → IsListed x xs → IsListed x (xs ++ ys)
-listed_left x [] ys h = absurd h
-listed_left x (z ∷ xs) ys (inl e) = inl e
-listed_left x (z ∷ xs) ys (inr h) = inr (listed_left x xs ys h)
-
-pub listed_right : {A : Type 0} (x : A) (xs ys : List A) → IsListed x ys → IsListed x (xs ++ ys)
-listed_right x [] ys h = h
-listed_right x (z ∷ xs) ys h = inr (listed_right x xs ys h)
 
 pub listed_map : {A B : Type 0} (f : A → B) (x : A) (xs : List A) → IsListed x xs → IsListed (f x) (map f xs)
 listed_map f x [] h = absurd h

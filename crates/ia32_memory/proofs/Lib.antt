@@ -7,6 +7,6 @@ mod ReadLemmas
 mod WriteLemmas
 mod ClearLemmas
 mod MakeLemmas
-mod StartLemmas
+pub mod StartLemmas
 mod ElementLemmas
 mod SpanLemmas

@@ -189,7 +189,7 @@ known_small true v small = omega arith
 known_small false None small = omega arith
 known_small false (Some b) small = small b refl
 
-start_small : (stack in_segment : Bool) (known byte : ℕ) → known < 256 → cond stack (Some 0) (cond in_segment (Some known) None) ≡ Some byte → byte < 256
+pub start_small : (stack in_segment : Bool) (known byte : ℕ) → known < 256 → cond stack (Some 0) (cond in_segment (Some known) None) ≡ Some byte → byte < 256
 start_small true in_segment known byte small e = let zero_ : 0 < 256 = omega arith in subst (λ v. v < 256) (same_Some 0 byte e) zero_
 start_small false true known byte small e = subst (λ v. v < 256) (same_Some known byte e) small
 start_small false false known byte small e = absurd (none-some byte e)

@@ -1,5 +1,4 @@
 pub mod KindLaws
 pub mod TurnLaws
 pub mod WalkLaws
-pub mod PlaceLaws
 pub mod MatchLaws

@@ -27,7 +27,7 @@ use Rattle.rounds.specs.declared.round.Round.{Round}
 use Rattle.round_soundness.specs.Quiet.{IsQuietRound, map_in, nodes_in}
 use Rattle.round_soundness.proofs.RoundLaws.{run_described}
 use Rattle.matched_soundness.specs.Laws.{kinds_in, MatchedEdgeIn, MatchedArrow}
-use Rattle.matched_soundness.proofs.PlaceLaws.{place_lives}
+use Rattle.slice_soundness.proofs.PlaceLemmas.{place_lives}
 use Rattle.matched_soundness.proofs.WalkLaws.{run_matches}
 
 -- a matched edge is listed
@@ -61,7 +61,7 @@ module _ (image : Image) (settings : Settings) (r : Round) (quiet : IsQuietRound
   arrow_of : (j i : ℕ) → DirectDependence (machine image settings) skip_sp run j i → HasArrow j i
   arrow_of j i (inl data_) =
       let by = data_.1 in
-      let lives = place_lives (machine image settings) (map_in image settings r) described run is_run skip_sp data_.0 j i by in
+      let lives = place_lives (machine image settings) (map_in image settings r) described.follows described.covers run is_run skip_sp data_.0 j i by in
       record {
         source = by.writer;
         user = by.reader;

@@ -16,6 +16,7 @@ use Rattle.ia32_semantics.specs.Outcome.{is_in_stack}
 use Rattle.ia32_semantics.specs.CallModel.{IsEntrySlot, IsStart}
 use Rattle.ia32_semantics.proofs.EffectLemmas.{HasSizes}
 use Rattle.ia32_memory.specs.Start.{start_bytes}
+use Rattle.ia32_memory.proofs.StartLemmas.{start_small}
 use Rattle.ia32_memory.proofs.StartLaws.{start_mapped, start_known, start_apart, segment_low}
 use Rattle.ia32_memory.proofs.WrittenLaws.{with_bytes_maps, with_bytes_other, with_bytes_small}
 use Rattle.ia32_machine.specs.Machines.{entry_slot, start_registers, start_state}
@@ -46,17 +47,12 @@ example_bytes a b e = found_small a (holds a segment) b e
 
 -- -- The memory at the start
 
-chosen_small : (stack in_segment : Bool) (known b : ℕ) → known < 256 → cond stack (Some 0) (cond in_segment (Some known) None) ≡ Some b → b < 256
-chosen_small true in_segment known b small e = subst (λ y. y < 256) (same_Some 0 b e) (omega arith)
-chosen_small false true known b small e = subst (λ y. y < 256) (same_Some known b e) small
-chosen_small false false known b small e = absurd (none-some b e)
-
 zero_small : (o : Option ℕ) → ((b : ℕ) → o ≡ Some b → b < 256) → byte_or_zero o < 256
 zero_small None small = omega arith
 zero_small (Some b) small = small b refl
 
 first_small : (a b : ℕ) → start_bytes image entry_slot a ≡ Some b → b < 256
-first_small a b e = chosen_small (is_in_stack entry_slot a) (is_in_segment image a) (byte_or_zero (byte_at image a)) b (zero_small (byte_at image a) (example_bytes a)) e
+first_small a b e = start_small (is_in_stack entry_slot a) (is_in_segment image a) (byte_or_zero (byte_at image a)) b (zero_small (byte_at image a) (example_bytes a)) e
 
 abbrev halt_bytes : List ℕ
 halt_bytes = 0 ∷ 0 ∷ 255 ∷ 255 ∷ []

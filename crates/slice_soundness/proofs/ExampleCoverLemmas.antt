@@ -22,7 +22,7 @@ use Rattle.slice_soundness.specs.Premises.{Comes, Covers, KeepsSlots, SlotsAreKe
 use Rattle.slice_soundness.specs.Tables.{value_in, number_in}
 use Rattle.slice_soundness.specs.Located.{Spot, owner_of, is_in_allocation, frame_spot, block_spot, global_spot, spot_by, spot_of, IsDivision, Part, OfCore, OfRegion, IsPartAt, IsThere, HasPlace, HasSets, AccessLaws, Takes, GivesUp, IsLocated}
 use Rattle.slice_soundness.specs.Example.{Act, calls, stops, stores, chooses, loads, returns, address_of, entry_base, inner_base, stored_at, entry_activation, inner_activation, all_but_newest, done, is_register, is_flag, is_byte, is_in_word, reads_of, writes_of, forgets_of, machine, Known, outside, inside, activations_of, esp_of, node_in, rows, callee_cell, entry_cell, cell_of, division, IsSlotByte, IsStoredByte, ReadsPart, WritesPart, accesses, uses_at, defines_at, flow, same_known, example}
-use Rattle.slice_soundness.proofs.DataLemmas.{both_are}
+use Rattle.slice_soundness.proofs.PlaceLemmas.{both_are}
 use Rattle.slice_soundness.proofs.RunLemmas.{not_both}
 use Rattle.slice_soundness.proofs.TableLemmas.{row_in}
 use Rattle.slice_soundness.proofs.LocatedLemmas.{places_are_covered}

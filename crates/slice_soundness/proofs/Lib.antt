@@ -2,6 +2,7 @@ pub mod NodeLemmas
 pub mod StateLemmas
 pub mod RunLemmas
 pub mod WalkLemmas
+pub mod PlaceLemmas
 pub mod DataLemmas
 pub mod ControlLemmas
 pub mod ArrowLemmas

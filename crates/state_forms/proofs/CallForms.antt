@@ -16,11 +16,9 @@ use Rattle.strided.proofs.SumLemmas.{add_canonical}
 use Rattle.si_bits.proofs.SignLemmas.{fits_between}
 use Rattle.alocs.specs.Cells.{Division}
 use Rattle.vset.specs.declared.part.Part.{Part}
-use Rattle.vset.specs.declared.part.Both.TheVariants.{Joined}
 use Rattle.vset.specs.Values.{Values, Top, Parts, AreCanonical, CanonicalValues}
-use Rattle.vset.specs.Operations.{part, join, with_part, renamed_into, with_renamed, drop_region, age, also}
+use Rattle.vset.specs.Operations.{part, join, with_renamed, drop_region, age, also}
 use Rattle.std.specs.List.{list_any}
-use Rattle.vset.proofs.MemberLemmas.{put_canonical}
 use Rattle.abs_alu.proofs.CanonicalLemmas.{settled_canonical}
 use Rattle.abs_semantics.specs.declared.parts.Link.{Link}
 use Rattle.abs_semantics.specs.States.{AbsState, HasCanonical, LinksAreCanonical, value_at, has_procedure, known_of}
@@ -33,7 +31,7 @@ use Rattle.abs_semantics.proofs.ReadLemmas.{join_form}
 use Rattle.abs_state.proofs.FormLemmas.{joins_keep_form}
 use Rattle.abs_steps.specs.Calls.{with_values, cleared, is_in, lies_below, as_of, moved, with_cells, is_of_age, links_as, without_young, cut_off, older_value, older_align, with_older_cells, grown_old, grown_old_if_live, return_slot, moved_align, new_link, entered_value, entered, called, ended, with_revived_cells, revived, ended_or_revived, esp_after, returned, older_block_value, with_older_block, block_or_none, allocated}
 use Rattle.call_soundness.specs.Maps.{HasForm, IsUnaligned}
-use Rattle.call_soundness.proofs.CallLaws.{age_form}
+use Rattle.call_soundness.proofs.CallLaws.{age_form, renamed_form}
 use Rattle.state_forms.proofs.AlignForms.{frame_unaligned, old_frame_unaligned}
 
 -- -- Values
@@ -41,17 +39,10 @@ use Rattle.state_forms.proofs.AlignForms.{frame_unaligned, old_frame_unaligned}
 zero_form : IsCanonical (one (pos 0))
 zero_form = one_canonical (pos 0) (fits_between (pos 0) (omega (arith, ints)) (omega (arith, ints)))
 
-also_parts : (old young : RegionId) (ps into : List Part) → AreCanonical ps → AreCanonical into → AreCanonical (with_renamed old young ps into)
-unfolding with_renamed
-also_parts old young [] into form forms = forms
-also_parts old young (x ∷ ps) into form forms =
-    also_parts old young ps (renamed_into old young x into) form.1
-    (cond_both (same_region x.region old) (with_part Joined (part young x.si) into) into AreCanonical (λ _. put_canonical Joined (part young x.si) into form.0 forms) (λ _. forms))
-
 also_form : (old young : RegionId) (v : Values) → CanonicalValues v → CanonicalValues (also old young v)
 unfolding also
 also_form old young Top form = tt
-also_form old young (Parts ps) form = settled_canonical (with_renamed old young ps ps) (also_parts old young ps ps form form)
+also_form old young (Parts ps) form = settled_canonical (with_renamed old young ps ps) (renamed_form old young ps ps form form)
 
 drop_form : (r : RegionId) (v : Values) → CanonicalValues v → CanonicalValues (drop_region r v)
 unfolding drop_region

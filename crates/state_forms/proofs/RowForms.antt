@@ -42,6 +42,7 @@ use Rattle.abs_steps.specs.Rows.{view_of, extended, divided, flag_effects, resul
 use Rattle.abs_steps.specs.Strings.{stepped, if_counted, count_of, bytes_of, grown, pointer_effects, moved_often, stored_often, moved, stored}
 use Rattle.abs_steps.specs.Views.{View, held, flags_held, value_of, store, store_to, with_held}
 use Rattle.step_soundness.proofs.SinceLaws.{part_form}
+use Rattle.step_soundness.proofs.StringRows.{few_size}
 use Rattle.step_soundness.proofs.ValueForms.{small_form, stored_form, value_form, stepped_form, grown_form, choice_form, pushed_form, risen_form, truth_form, sign_form, widened_form}
 use Rattle.call_soundness.specs.Maps.{IsPlaceOfOne, HasForm}
 use Rattle.state_forms.specs.Formed.{AreFormedEffects}
@@ -159,11 +160,6 @@ store_formed v width (Some (operand.Mem m)) w form = cond_both m.gs [] (saves (a
 flags_formed : (v : View) (w : ℕ) (o : Op) (x y : Values) → AreFormedEffects (flag_effects v w o x y)
 flags_formed v w o x y = cond_both (keeps_flags w o y) [] (turns (flags w o x y _) ∷ []) AreFormedEffects (λ _. tt) (λ _. (tt, tt))
 
-stepped_by : (width : Width) → size width ≤ 4
-stepped_by B8 = omega arith
-stepped_by W16 = omega arith
-stepped_by D32 = omega arith
-
 quotients_formed : (width : Width) (o : Option (ℕ × ℕ)) → IfSome o AreWords → AreFormedEffects (quotient_effects width o)
 quotients_formed width (Some q) words = (word_form q.0 words.0, (word_form q.1 words.1, tt))
 quotients_formed B8 None words = (tt, tt)
@@ -260,7 +256,7 @@ module _ (a : AbsState) (form : HasCanonical a) (d : Division) (p : ℕ) (i : In
   pointers_formed from to first second = (first, (second, (small_form 0 (lit< tt), tt)))
 
   further_form : (width : Width) (c : Interval) → IsCanonical c → (n : ℕ) → CanonicalValues (grown (size width) c (a.registers n))
-  further_form width c fc n = let few = stepped_by width in grown_form (size width) c (a.registers n) (omega (arith, few)) fc (form.registers n)
+  further_form width c fc n = let few = few_size width in grown_form (size width) c (a.registers n) (omega (arith, few)) fc (form.registers n)
 
   moved_often_formed : (width : Width) (o : Option Interval) → IfSome o IsCanonical → AreFormedEffects (moved_often v width o)
   moved_often_formed width None forms = (tt, pointers_formed Top Top tt tt)
@@ -275,7 +271,7 @@ module _ (a : AbsState) (form : HasCanonical a) (d : Division) (p : ℕ) (i : In
       (λ _. (tt, pointers_formed (held v 6) (grown (size width) c (held v 7)) (form.registers 6) (further_form width c forms 7)))
 
   pointer_form : (width : Width) (n : ℕ) → CanonicalValues (stepped (flags_held v) (size width) (held v n))
-  pointer_form width n = stepped_form (flags_held v) (size width) (held v n) (stepped_by width) (form.registers n)
+  pointer_form width n = stepped_form (flags_held v) (size width) (held v n) (few_size width) (form.registers n)
 
   moved_formed : (repeat : Bool) (width : Width) → AreFormedEffects (moved repeat v width)
   moved_formed false width = (stored_form a form d p width (held v 6), (pointer_form width 6, (pointer_form width 7, tt)))
